@@ -4,10 +4,9 @@ use crate::call::{Call, CallError, GivenSource, Program};
 use crate::given::{Given, Held, value_of};
 use crate::members::{put_end, put_end_line, put_faults, put_text};
 use rv_chain::{build_exe_on, build_on};
-use rv_guests::status_of;
+use rv_guests::{KeptFault, run_counted, run_kept, status_of};
 use rv_job::default_options;
 use rv_json::number;
-use rv_kept_runs::{KeptFault, run_counted, run_kept};
 use rv_machine::Outcome;
 use rv_system::{JobError, System, fault_line, image_in};
 use serde_json::{Map, Value, put};
@@ -24,65 +23,93 @@ pub(crate) fn answer<S: System>(
     line: &[u8],
     limit: u64,
 ) -> Result<Value, AllocError> {
+    let mut members = Map::new(system.alloc());
+    put_answer(system, line, limit, &mut members)?;
+    Ok(Value::Object(members))
+}
+
+/// Adds what answers a line, its status last.
+fn put_answer<S: System>(
+    system: &mut S,
+    line: &[u8],
+    limit: u64,
+    members: &mut Map<String, Value>,
+) -> Result<(), AllocError> {
     let alloc: Global = system.alloc();
-    let mut members = Map::new(alloc);
-    let value = match Value::from_slice(alloc, line) {
-        Ok(value) => value,
-        Err(error) if error.is_memory() => return refused(alloc, members, "out of memory", REFUSED),
-        Err(_) => return wrong(alloc, members, &CallError::NotJson),
-    };
-    let Some(object) = value.as_object() else {
-        return wrong(alloc, members, &CallError::NoObject);
-    };
-    if let Some(id) = value.get("id") {
-        put(&mut members, alloc, "id", id.clone()?)?;
-    }
-    let call = match Call::of(alloc, object, limit) {
-        Ok(call) => call,
-        Err(error) => return wrong(alloc, members, &error),
-    };
-    match answer_call(system, &call, &mut members) {
-        Ok(status) => done(alloc, members, status),
-        Err(JobError::Line(line)) => refused(alloc, members, line.as_str(), REFUSED),
-        Err(JobError::Memory) => refused(alloc, members, "out of memory", REFUSED),
-        Err(JobError::Closed) => refused(alloc, members, "standard output is closed", REFUSED),
+    match Value::from_slice(alloc, line) {
+        Ok(value) => put_answer_of(system, &value, limit, members),
+        Err(error) if error.is_memory() => put_refusal(alloc, members, "out of memory", REFUSED),
+        Err(_) => put_fault(alloc, members, &CallError::NotJson),
     }
 }
 
-/// The answer of a line that asks for nothing.
-fn wrong(
+/// Adds what answers a value.
+fn put_answer_of<S: System>(
+    system: &mut S,
+    value: &Value,
+    limit: u64,
+    members: &mut Map<String, Value>,
+) -> Result<(), AllocError> {
+    let alloc: Global = system.alloc();
+    let Some(object) = value.as_object() else {
+        return put_fault(alloc, members, &CallError::NoObject);
+    };
+    if let Some(id) = value.get("id") {
+        put(members, alloc, "id", id.clone()?)?;
+    }
+    match Call::of(alloc, object, limit) {
+        Ok(call) => put_called(system, &call, members),
+        Err(error) => put_fault(alloc, members, &error),
+    }
+}
+
+/// Adds what answers a call.
+fn put_called<S: System>(
+    system: &mut S,
+    call: &Call<'_>,
+    members: &mut Map<String, Value>,
+) -> Result<(), AllocError> {
+    let alloc: Global = system.alloc();
+    match answer_call(system, call, members) {
+        Ok(status) => put_status(alloc, members, status),
+        Err(JobError::Line(line)) => put_refusal(alloc, members, line.as_str(), REFUSED),
+        Err(JobError::Memory) => put_refusal(alloc, members, "out of memory", REFUSED),
+        Err(JobError::Closed) => put_refusal(alloc, members, "standard output is closed", REFUSED),
+    }
+}
+
+/// Adds why a line asks for nothing.
+fn put_fault(
     alloc: Global,
-    members: Map<String, Value>,
+    members: &mut Map<String, Value>,
     error: &CallError,
-) -> Result<Value, AllocError> {
+) -> Result<(), AllocError> {
     let status = match error {
         CallError::Memory => REFUSED,
         _ => USAGE,
     };
     let line = format!(in alloc; "{error}")?;
-    refused(alloc, members, line.as_str(), status)
+    put_refusal(alloc, members, line.as_str(), status)
 }
 
-/// The answer of a call that is refused with this line.
-fn refused(
+/// Adds the line with which a call is refused.
+fn put_refusal(
     alloc: Global,
-    mut members: Map<String, Value>,
+    members: &mut Map<String, Value>,
     line: &str,
     status: u8,
-) -> Result<Value, AllocError> {
-    put_text(alloc, &mut members, "error", line)?;
-    done(alloc, members, status)
+) -> Result<(), AllocError> {
+    put_text(alloc, members, "error", line)?;
+    put_status(alloc, members, status)
 }
 
-/// The answer with its status.
-fn done(alloc: Global, mut members: Map<String, Value>, status: u8) -> Result<Value, AllocError> {
-    put(
-        &mut members,
-        alloc,
-        "status",
-        Value::from(u64::from(status)),
-    )?;
-    Ok(Value::Object(members))
+/// Adds the status.
+fn put_status(
+    alloc: Global,
+    members: &mut Map<String, Value>,
+    status: u8,
+) -> Result<(), AllocError> {
+    put(members, alloc, "status", Value::from(u64::from(status)))
 }
 
 /// Builds and runs what a call is of, and adds what it wants; the status.

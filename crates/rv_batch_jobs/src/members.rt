@@ -6,7 +6,7 @@ use rv_guests::end_line;
 use rv_machine::End;
 use rv_source_jobs::finding_value;
 use rv_system::{JobError, fault_line};
-use serde_json::{Map, Value, json, put};
+use serde_json::{Map, Value, push, put};
 use std::alloc::{AllocError, Global};
 
 /// Adds how a run ended: the name of the end, and its status or its address, in hexadecimal.
@@ -15,19 +15,26 @@ pub(crate) fn put_end(
     members: &mut Map<String, Value>,
     end: &End,
 ) -> Result<(), AllocError> {
-    let name = end.name();
-    let value = match (end, end.address()) {
-        (End::Exited(status), _) => {
-            let status = u64::from(*status);
-            json!(in alloc; { "name": name, "status": status })?
-        }
+    let mut told = Map::new(alloc);
+    put_end_members(alloc, &mut told, end)?;
+    put(members, alloc, "end", Value::Object(told))
+}
+
+/// Adds the name of an end, and its status or its address.
+fn put_end_members(
+    alloc: Global,
+    told: &mut Map<String, Value>,
+    end: &End,
+) -> Result<(), AllocError> {
+    put_text(alloc, told, "name", end.name())?;
+    match (end, end.address()) {
+        (End::Exited(status), _) => put(told, alloc, "status", Value::from(u64::from(*status))),
         (_, Some(address)) => {
             let address = format!(in alloc; "{address:x}")?;
-            json!(in alloc; { "name": name, "address": &address })?
+            put_text(alloc, told, "address", address.as_str())
         }
-        (_, None) => json!(in alloc; { "name": name })?,
-    };
-    put(members, alloc, "end", value)
+        (_, None) => Ok(()),
+    }
 }
 
 /// Adds the line of a run that did not exit.
@@ -50,28 +57,41 @@ pub(crate) fn put_faults(
     sources: &[&[u8]],
     options: GroundOptions,
 ) -> Result<(), JobError> {
-    let report = match check(alloc, names, sources, options) {
-        Ok(report) => report,
-        Err(fault) => return Err(fault_line(alloc, &fault, names)?),
-    };
-    let findings = findings(alloc, names, &report)?;
-    put(members, alloc, "faults", Value::Array(findings))?;
-    Ok(())
+    match check(alloc, names, sources, options) {
+        Ok(report) => {
+            put(members, alloc, "faults", findings(alloc, names, &report)?)?;
+            Ok(())
+        }
+        Err(fault) => Err(fault_line(alloc, &fault, names)?),
+    }
 }
 
-/// The findings of a report, the faults first.
-fn findings(alloc: Global, names: &[&str], report: &Report) -> Result<Vec<Value>, AllocError> {
+/// The findings of a report, as a list of JSON.
+fn findings(alloc: Global, names: &[&str], report: &Report) -> Result<Value, AllocError> {
     let mut findings = Vec::new(alloc);
+    put_findings(alloc, &mut findings, names, report)?;
+    Ok(Value::Array(findings))
+}
+
+/// Adds the findings of a report, the faults first.
+fn put_findings(
+    alloc: Global,
+    findings: &mut Vec<Value>,
+    names: &[&str],
+    report: &Report,
+) -> Result<(), AllocError> {
     if let Some(first) = &report.first {
-        findings.push(finding_value(alloc, names, Some(&first.fault), &first.remark)?)?;
+        let finding = finding_value(alloc, names, Some(&first.fault), &first.remark)?;
+        push(findings, finding)?;
     }
     for other in &report.others {
-        findings.push(finding_value(alloc, names, Some(&other.fault), &other.remark)?)?;
+        let finding = finding_value(alloc, names, Some(&other.fault), &other.remark)?;
+        push(findings, finding)?;
     }
     for warning in &report.warnings {
-        findings.push(finding_value(alloc, names, None, warning)?)?;
+        push(findings, finding_value(alloc, names, None, warning)?)?;
     }
-    Ok(findings)
+    Ok(())
 }
 
 /// Adds a text.

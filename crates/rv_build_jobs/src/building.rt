@@ -2,12 +2,15 @@
 //!
 //! A job writes no file before all that it writes is made.
 
-use crate::debugging::{debugged, named_object, paths_of_names};
+use crate::additions::Inputs;
+use crate::debug_objects::object_for_debuggers;
+use crate::debugging::{debugged, paths_of_names, source_objects};
+use crate::defining::Definitions;
 use crate::files::{linked_files, object_files};
 use crate::linking::link_inputs;
 use crate::loading::{given_sources, is_elf};
-use crate::padding::Inputs;
 use crate::refusing::{is_explained, program_image, refused_sources};
+use crate::settling::settled_inputs;
 use rv_chain::{Built, Fault, GroundOptions, assemble_object, build_exe_on, build_on};
 use rv_guests::{GuestInput, Guests, report_end, run_line};
 use rv_job::{
@@ -87,7 +90,7 @@ fn run_executable<S: Guests>(
 }
 
 /// The executable that sources build.
-fn executable<S: System>(
+pub(crate) fn executable<S: System>(
     system: &S,
     names: &[&str],
     sources: &[&[u8]],
@@ -107,8 +110,12 @@ pub fn build_files<S: System>(system: &mut S, asked: &AskedBuild<'_>) -> Result<
     if !asked.libraries.words.is_empty() {
         return build_with_archives(system, asked);
     }
-    let alloc: Global = system.alloc();
-    let inputs = Inputs::of(alloc, asked.sources.as_slice(), asked.settings.pads_ends)?;
+    let inputs = settled_inputs(
+        system,
+        asked.sources.as_slice(),
+        asked.definitions.as_slice(),
+        asked.settings,
+    )?;
     build_inputs(system, asked.outputs, asked.settings, &inputs)
 }
 
@@ -117,8 +124,18 @@ pub fn build_files<S: System>(system: &mut S, asked: &AskedBuild<'_>) -> Result<
 fn build_with_archives<S: System>(system: &mut S, asked: &AskedBuild<'_>) -> Result<u8, JobError> {
     let alloc: Global = system.alloc();
     let names = asked.sources.as_slice();
+    let mut definitions = Definitions::of(
+        alloc,
+        asked.definitions.as_slice(),
+        asked.settings.options,
+    )?;
     let read = files_bytes(system, names)?;
-    let mut behind = linked_files(system, &asked.libraries, asked.settings.pads_ends)?;
+    let mut behind = linked_files(
+        system,
+        &asked.libraries,
+        &definitions,
+        asked.settings.pads_ends,
+    )?;
     let sources = borrowed(alloc, read.as_slice())?;
     let mut files = object_files(system, names, sources.as_slice(), asked.settings.explains)?;
     files.append(&mut behind)?;
@@ -127,7 +144,8 @@ fn build_with_archives<S: System>(system: &mut S, asked: &AskedBuild<'_>) -> Res
         asked.outputs,
         asked.settings,
         sources.as_slice(),
-        files.as_slice(),
+        &mut definitions,
+        &mut files,
     )
 }
 
@@ -138,13 +156,12 @@ fn build_inputs<S: System>(
     settings: LinkSettings,
     inputs: &Inputs<'_>,
 ) -> Result<u8, JobError> {
-    if outputs.debug || outputs.map.is_some() {
+    if outputs.debug {
+        let built = build_for_debuggers(system, outputs.exe, inputs, settings)?;
+        return write_outputs(system, outputs, built);
+    }
+    if outputs.map.is_some() {
         let built = build_with_map(system, inputs, settings)?;
-        if !outputs.debug {
-            return write_outputs(system, outputs, built);
-        }
-        let paths = paths_of_names(system.alloc(), inputs.names())?;
-        let built = debugged(system, outputs.exe, paths.as_slice(), built)?;
         return write_outputs(system, outputs, built);
     }
     let exe = build_without_map(system, inputs, settings)?;
@@ -152,15 +169,13 @@ fn build_inputs<S: System>(
     Ok(0)
 }
 
-/// Reads the sources in their order and builds them: the executable.
+/// Builds sources: the executable.
 fn build_without_map<S: System>(
-    system: &mut S,
+    system: &S,
     inputs: &Inputs<'_>,
     settings: LinkSettings,
 ) -> Result<Vec<u8>, JobError> {
-    let alloc: Global = system.alloc();
-    let read = inputs.sources(system)?;
-    let sources = borrowed(alloc, read.as_slice())?;
+    let sources = inputs.texts(system.alloc())?;
     executable(
         system,
         inputs.names(),
@@ -170,21 +185,48 @@ fn build_without_map<S: System>(
     )
 }
 
-/// Reads the sources in their order and builds them: the executable and its map.
-fn build_with_map<S: System>(
-    system: &mut S,
+/// Builds sources: the executable and its map.
+pub(crate) fn build_with_map<S: System>(
+    system: &S,
     inputs: &Inputs<'_>,
     settings: LinkSettings,
 ) -> Result<Built, JobError> {
-    let alloc: Global = system.alloc();
-    let read = inputs.sources(system)?;
-    let sources = borrowed(alloc, read.as_slice())?;
+    let sources = inputs.texts(system.alloc())?;
     built(
         system,
         inputs.names(),
         sources.as_slice(),
         settings.options,
         settings.explains,
+    )
+}
+
+/// Builds sources: the executable, with names and lines behind it, and its map.
+fn build_for_debuggers<S: System>(
+    system: &S,
+    exe: &str,
+    inputs: &Inputs<'_>,
+    settings: LinkSettings,
+) -> Result<Built, JobError> {
+    let alloc: Global = system.alloc();
+    let names = inputs.names();
+    let sources = inputs.texts(alloc)?;
+    let built = built(
+        system,
+        names,
+        sources.as_slice(),
+        settings.options,
+        settings.explains,
+    )?;
+    let objects = source_objects(alloc, names, sources.as_slice())?;
+    let paths = paths_of_names(alloc, names)?;
+    debugged(
+        system,
+        exe,
+        paths.as_slice(),
+        objects.as_slice(),
+        None,
+        built,
     )
 }
 
@@ -205,8 +247,12 @@ pub(crate) fn built<S: System>(
 /// Prints the map of what sources build; the exit status.
 #[inline(never)]
 pub fn print_map<S: System>(system: &mut S, asked: &AskedMap<'_>) -> Result<u8, JobError> {
-    let alloc: Global = system.alloc();
-    let inputs = Inputs::of(alloc, asked.sources.as_slice(), asked.settings.pads_ends)?;
+    let inputs = settled_inputs(
+        system,
+        asked.sources.as_slice(),
+        asked.definitions.as_slice(),
+        asked.settings,
+    )?;
     let built = build_with_map(system, &inputs, asked.settings)?;
     print(system, built.map.as_slice())?;
     Ok(0)
@@ -216,17 +262,16 @@ pub fn print_map<S: System>(system: &mut S, asked: &AskedMap<'_>) -> Result<u8, 
 #[inline(never)]
 pub fn assemble<S: System>(system: &mut S, asked: &AskedObject<'_>) -> Result<u8, JobError> {
     let text = file_bytes(system, asked.source)?;
-    let file = assembled(
-        system,
-        asked.source,
-        text.as_slice(),
-        asked.relax,
-        asked.explains,
-    )?;
     let file = if asked.debug {
-        named_object(system, asked.source, file.as_slice())?
+        object_for_debuggers(system, asked, text.as_slice())?
     } else {
-        file
+        assembled(
+            system,
+            asked.source,
+            text.as_slice(),
+            asked.relax,
+            asked.explains,
+        )?
     };
     write(system, asked.object, Purpose::ToRead, file.as_slice())?;
     Ok(0)
@@ -266,7 +311,7 @@ fn object_of(alloc: Global, source: &[u8], relax: bool) -> Result<Vec<u8>, Fault
 ///
 /// The option goes in front of the first line, so that lines keep their numbers, and no linker shortens the object; its rows
 /// count one statement more.
-fn without_relaxation(alloc: Global, text: &[u8]) -> Result<Vec<u8>, AllocError> {
+pub(crate) fn without_relaxation(alloc: Global, text: &[u8]) -> Result<Vec<u8>, AllocError> {
     let mut option = Vec::from_slice(alloc, b".option norelax; ")?;
     option.extend_from_slice(text)?;
     Ok(option)

@@ -1,29 +1,41 @@
 //! Executables with names and lines for debuggers.
 //!
 //! They stand behind the executable, whose image stays what it is, and the map stays the same too. Names and lines are those of
-//! the map; paths of sources are as the words name them, below the working directory, and those of objects as the objects name
-//! their sources.
+//! the map, and labels those of the objects; paths of sources are as the words name them, below the working directory, and
+//! those of objects as the objects name their sources.
 
-use rv_chain::{Built, FileFault};
-use rv_debug::{DebugFault, SourceFile, debug_file};
-use rv_source_names::{path_from, source_of, with_source};
-use rv_system::{JobError, ReadFault, System};
+use rv_assemble::{SourceFault, assemble};
+use rv_chain::{Built, Fault, FileFault};
+use rv_debug::{
+    DebugFault, Described, Object, SourceFile, debug_file, path_from, source_of, with_source,
+};
+use rv_marks::marks;
+use rv_object_reader::read;
+use rv_system::{JobError, ReadFault, System, fault_line};
 use std::alloc::{AllocError, Global};
 
-/// What was built of sources with these paths, with names and lines behind the executable.
+/// What was built of these objects, whose sources have these paths, with names and lines behind the executable; the lines
+/// are those of the rows of another map, if one is given.
 pub(crate) fn debugged<S: System>(
     system: &S,
     exe: &str,
     paths: &[Vec<u8>],
+    objects: &[Described<'_>],
+    lines: Option<&[u8]>,
     built: Built,
 ) -> Result<Built, JobError> {
     let alloc: Global = system.alloc();
     let directory = directory(system)?;
     let sources = source_files(alloc, paths)?;
+    let map = match lines {
+        Some(lines) => lines,
+        None => built.map.as_slice(),
+    };
     match debug_file(
         alloc,
         built.exe.as_slice(),
-        built.map.as_slice(),
+        map,
+        objects,
         directory.as_bytes(),
         sources.as_slice(),
     ) {
@@ -36,6 +48,62 @@ pub(crate) fn debugged<S: System>(
             "{exe}: no names and lines for debuggers: {fault}"
         )?)),
     }
+}
+
+/// The objects of sources that are built, with what their directives say.
+pub(crate) fn source_objects<'s>(
+    alloc: Global,
+    names: &[&str],
+    sources: &[&'s [u8]],
+) -> Result<Vec<Described<'s>>, JobError> {
+    let mut objects: Vec<Described<'s>> = Vec::new(alloc);
+    let mut number: u32 = 0;
+    for source in sources {
+        number = number.saturating_add(1);
+        match assemble(alloc, source) {
+            Ok(object) => objects.push(Described {
+                object,
+                marks: marks(alloc, source)?,
+            })?,
+            Err(SourceFault::OutOfMemory) => return Err(JobError::Memory),
+            Err(fault) => return Err(fault_line(alloc, &Fault::Source(number, fault), names)?),
+        }
+    }
+    Ok(objects)
+}
+
+/// The objects of files that are linked.
+pub(crate) fn file_objects<'f>(
+    alloc: Global,
+    names: &[&str],
+    files: &[&'f [u8]],
+) -> Result<Vec<Object<'f>>, JobError> {
+    let mut objects: Vec<Object<'f>> = Vec::new(alloc);
+    let mut number: u32 = 0;
+    for file in files {
+        number = number.saturating_add(1);
+        match read(alloc, file) {
+            Ok(object) => objects.push(object)?,
+            Err(FileFault::OutOfMemory) => return Err(JobError::Memory),
+            Err(fault) => return Err(fault_line(alloc, &Fault::File(number, fault), names)?),
+        }
+    }
+    Ok(objects)
+}
+
+/// Objects of whose sources nothing is said.
+pub(crate) fn without_marks<'f>(
+    alloc: Global,
+    objects: Vec<Object<'f>>,
+) -> Result<Vec<Described<'f>>, AllocError> {
+    let mut described: Vec<Described<'f>> = Vec::new(alloc);
+    for object in objects {
+        described.push(Described {
+            object,
+            marks: Vec::new(alloc),
+        })?;
+    }
+    Ok(described)
 }
 
 /// The working directory, by a name of its own where the system does not say it.

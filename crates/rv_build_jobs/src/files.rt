@@ -1,7 +1,8 @@
 //! The files of a link, as the words name them.
 
+use crate::additions::{Addition, defined, padded};
 use crate::building::assembled;
-use crate::padding;
+use crate::defining::Definitions;
 use rv_inputs::Form;
 use rv_job::{LinkInput, LinkWord, LinkWords};
 use rv_system::{JobError, ReadFault, System, file_bytes};
@@ -17,6 +18,8 @@ pub(crate) struct LinkFile {
     pub(crate) form: Form,
     /// Whether it stands in the group of the file before it.
     pub(crate) joins: bool,
+    /// Whether it is what defines names.
+    pub(crate) defines: bool,
 }
 
 impl LinkFile {
@@ -26,6 +29,7 @@ impl LinkFile {
             bytes,
             form: Form::Object,
             joins: false,
+            defines: false,
         })
     }
 
@@ -35,6 +39,7 @@ impl LinkFile {
             bytes,
             form: Form::Archive,
             joins: false,
+            defines: false,
         }
     }
 }
@@ -59,16 +64,36 @@ impl Standing {
     }
 }
 
-/// Reads the files that words name, in their order, with the padding behind them where it is wanted.
+/// Reads the files that words name, in their order, with what defines names before the first archive, which then need not
+/// define them, and the padding behind all where it is wanted.
 pub(crate) fn linked_files<S: System>(
     system: &mut S,
     words: &LinkWords<'_>,
-    padded: bool,
+    definitions: &Definitions<'_>,
+    is_padded: bool,
 ) -> Result<Vec<LinkFile>, JobError> {
-    let mut files = Vec::new(system.alloc());
-    put_words(system, words, &mut files)?;
-    put_padding(system, padded, &mut files)?;
+    let alloc: Global = system.alloc();
+    let mut files = Vec::new(alloc);
+    put_words(system, words, definitions, &mut files)?;
+    if let Some(addition) = padded(alloc, is_padded)? {
+        files.push(addition_file(alloc, &addition)?)?;
+    }
     Ok(files)
+}
+
+/// Puts another object in the place of the one that defines names.
+pub(crate) fn redefine(
+    alloc: Global,
+    files: &mut [LinkFile],
+    definitions: &Definitions<'_>,
+) -> Result<(), JobError> {
+    if let Some(addition) = defined(alloc, definitions)? {
+        let object = addition.object(alloc)?;
+        if let Some(file) = files.iter_mut().find(|file| file.defines) {
+            file.bytes = object;
+        }
+    }
+    Ok(())
 }
 
 /// Assembles sources with these names: their objects, as files.
@@ -87,14 +112,20 @@ pub(crate) fn object_files<S: System>(
     Ok(files)
 }
 
-/// Adds the files that words name.
+/// Adds the files that words name, and the object that defines names.
 fn put_words<S: System>(
     system: &mut S,
     words: &LinkWords<'_>,
+    definitions: &Definitions<'_>,
     files: &mut Vec<LinkFile>,
 ) -> Result<(), JobError> {
+    let alloc: Global = system.alloc();
+    let mut addition = defined(alloc, definitions)?;
     let mut standing = Standing::Alone;
     for word in &words.words {
+        if !matches!(word, LinkWord::Input(LinkInput::Object(_))) {
+            put_definitions(alloc, addition.take(), files)?;
+        }
         match word {
             LinkWord::StartGroup => standing = Standing::First,
             LinkWord::EndGroup => standing = Standing::Alone,
@@ -106,21 +137,27 @@ fn put_words<S: System>(
             }
         }
     }
+    put_definitions(alloc, addition, files)
+}
+
+/// Adds the object that defines names, if there is one.
+fn put_definitions(
+    alloc: Global,
+    addition: Option<Addition>,
+    files: &mut Vec<LinkFile>,
+) -> Result<(), JobError> {
+    if let Some(addition) = addition {
+        let mut file = addition_file(alloc, &addition)?;
+        file.defines = true;
+        files.push(file)?;
+    }
     Ok(())
 }
 
-/// Adds the padding where it is wanted.
-fn put_padding<S: System>(
-    system: &S,
-    padded: bool,
-    files: &mut Vec<LinkFile>,
-) -> Result<(), JobError> {
-    if padded {
-        let alloc: Global = system.alloc();
-        let object = padding::object(alloc)?;
-        files.push(LinkFile::object(alloc, padding::NAME, object)?)?;
-    }
-    Ok(())
+/// The object of a source of the program's own.
+fn addition_file(alloc: Global, addition: &Addition) -> Result<LinkFile, JobError> {
+    let object = addition.object(alloc)?;
+    Ok(LinkFile::object(alloc, addition.name, object)?)
 }
 
 /// Reads the file that a link takes.

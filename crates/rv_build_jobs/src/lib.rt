@@ -14,16 +14,23 @@
 //! ```
 #![tactic(auto)]
 
+mod additions;
+mod boards;
 mod building;
+mod carrying;
+mod debug_objects;
 mod debugging;
+mod defining;
 mod files;
 mod linking;
 mod loading;
 mod padding;
 mod refusing;
 mod rows;
+mod settling;
 mod taking;
 
+pub use boards::run_on_board;
 pub use building::{assemble, build_files, print_map, run};
 pub use linking::link_files;
 pub use loading::load_program;

@@ -1,8 +1,8 @@
 //! A second look at a run that did not exit: where it ended, and by which access.
 
 use rv_chain::build_on;
+use rv_guests::Console;
 use rv_job::default_options;
-use rv_kept_runs::Console;
 use rv_machine::{End, Io, Watched, run_watched};
 use rv_memory::Paged;
 use rv_system::{JobError, fault_line, image_in, map_in};

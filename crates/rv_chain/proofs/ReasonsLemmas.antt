@@ -16,8 +16,8 @@ use Rattle.rv_fault.specs.declared.link_fault.LinkFault.TheVariants as links
 use Rattle.rv_fault.specs.LinkFault.{link_fault_number}
 use Rattle.rv_link_laws.specs.TextStart.{AreWithin}
 use Rattle.rv_link.proofs.LeftLemmas.{alike, past_unlinked}
-use Rattle.rv_unique_link_theorems.specs.Asked.{IsSound}
-use Rattle.rv_unique_link_theorems.specs.Same.{OneProgram, RefusedForMemory, RefusedForOne, RowsArePlaced, RunsBeginEven}
+use Rattle.rv_unique_theorems.specs.Asked.{IsSound}
+use Rattle.rv_unique_theorems.specs.Same.{OneProgram, RefusedForMemory, RefusedForOne, RowsArePlaced, RunsBeginEven}
 use Rattle.rv_fault.specs.declared.fault.Fault.TheVariants.{Link}
 use Rattle.rv_fault.specs.Fault.{IsNamed}
 

@@ -24,7 +24,7 @@ use Rattle.rv_assemble.proofs.AlignmentsLemmas.{aligned}
 use Rattle.rv_assemble.proofs.EvenCodeLemmas.{parts_even, ends_within}
 use Rattle.rv_assemble.proofs.CodeFitsLemmas.{Holds, all_fit}
 use Rattle.rv_assemble.proofs.FieldsInsideLemmas.{none_in_nobits, parts_within, paddings_lie}
-use Rattle.rv_unique_link_theorems.specs.Asked.{IsSound}
+use Rattle.rv_unique_theorems.specs.Asked.{IsSound}
 use Rattle.rv_assemble.proofs.ComposedLemmas.{inside_by}
 
 -- ---- sections, one by one

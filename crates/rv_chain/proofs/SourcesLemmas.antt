@@ -22,7 +22,7 @@ use Rattle.rv_fault.specs.declared.link_fault.LinkFault.{LinkFault}
 use Rattle.rv_link_laws.specs.declared.bounds.Ground.{Ground}
 use Rattle.rv_link_laws.specs.TextStart.{AreWithin}
 use Rattle.rv_link_laws.specs.Refusals.{ArePast, HasNoProgram, IsSameFault}
-use Rattle.rv_unique_link_theorems.specs.Asked.{IsSound}
+use Rattle.rv_unique_theorems.specs.Asked.{IsSound}
 use Rattle.rv_fault.specs.declared.fault.Fault.TheVariants.{Source, File, Link, Memory}
 use Rattle.rv_fault.specs.Fault.{IsNamed}
 use Rattle.rv_chain_laws.specs.Objects.{IsObjectFrom, AreEach, AreObjectsFrom}

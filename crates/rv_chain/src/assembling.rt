@@ -6,7 +6,7 @@ ghost use Rattle.rv_chain.specs.Refusals.{IsRefusedAt};
 
 use crate::building::object;
 use rv_fault::Fault;
-use rv_object::write;
+use rv_object_writer::write;
 use std::alloc::Global;
 
 /// Assembles a source: the bytes of its object's file. A refused source is file 1.

@@ -8,12 +8,9 @@ use rv_assemble_laws::names_are_shown;
 use rv_object_file_laws::{one_object, written_object_is_read};
 use rv_parse_laws::{not_both, one_fault, one_reading};
 use rv_raw_theorems::{listing_reads, raw_listings_have_no_fault, raw_objects_have_a_program};
-use rv_unique_link_theorems::{
-    objects_keep_it, one_program, refused_for_one_reason, refused_has_no_program,
-};
-use rv_unique_object_theorems::{
-    objects_are_not_too_long, objects_have_files, one_object_of_statements,
-    statements_have_one_fault,
+use rv_unique_theorems::{
+    objects_are_not_too_long, objects_have_files, objects_keep_it, one_object_of_statements,
+    one_program, refused_for_one_reason, refused_has_no_program, statements_have_one_fault,
 };
 
 /// What `build` makes of sources, `link_objects` makes of the files of their objects: the same executable and the same map,

@@ -16,7 +16,8 @@ use crate::built::Built;
 use rv_fault::Fault;
 use rv_image::{FileFault, Linked, write_exec};
 use rv_link::{GroundOptions, LinkFault, LinkOptions, link_exe_on, link_on, within_limits};
-use rv_object::{Object, read};
+use rv_object_reader::read;
+use rv_object_types::Object;
 use std::alloc::Global;
 
 /// Links objects, whoever wrote them: the executable and its map. `objects` are the bytes of their files.

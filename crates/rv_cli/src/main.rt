@@ -1,10 +1,14 @@
 //! The program `rv`: builds bare RISC-V programs from assembly sources and runs them.
 //!
-//! All but the start of the process is in `rv_program`. The line of a run that does not exit ([`end_line`]) is given on.
+//! All but the start of the process and the system itself ([`Host`]) is in `rv_program`. The line of a run that does not exit
+//! ([`end_line`]) is given on. Files and streams have no contract and are tested; what is to have a test of its own stands in a
+//! crate below, since with one here the whole program would be proved twice.
 #![tactic(auto)]
 
+mod host;
+
+use crate::host::Host;
 pub use rv_guests::end_line;
-use rv_host::Host;
 use rv_program::{CliError, exit_status, report};
 use std::alloc::Global;
 use std::env;

@@ -4,34 +4,33 @@ use crate::assembler_options::{is_code_option, is_machine_option};
 use crate::links::link_words;
 use crate::numbers::number;
 use crate::operands::{Flag, Operands, Refusal, Text, Texts};
-use crate::words::Help;
+use crate::words::{Help, Word};
 use rv_job::{
     AskedBuild, AskedLink, AskedMap, AskedObject, Job, LinkOutputs, LinkSettings, TEXT_START,
 };
 use rv_link::{Ground, GroundOptions, ground_of, usual};
 use rv_numbers::text_start;
-use std::alloc::{AllocError, Global};
 
 pub(crate) const BUILD: Help = Help {
+    word: Word::Build,
     name: "build",
     about: "Builds an executable from sources",
     after_help: "Example:
   rv build -o prog --map prog.map prog.s",
 };
 
-pub(crate) fn build<'a>(operands: &mut Operands<'_, 'a>) -> Result<Job<'a>, Refusal> {
-    let exe = operands.required(executable())?;
-    let map = operands.optional(written_map())?;
-    let debug = operands.flag(names_and_lines())?;
-    Ok(Job::Build(AskedBuild {
-        outputs: LinkOutputs { exe, map, debug },
-        settings: link_settings(operands)?,
-        sources: operands.all(sources())?,
-        libraries: link_words(operands, None)?,
-    }))
+pub(crate) fn build<'a>(operands: &mut Operands<'_, 'a>) -> Job<'a> {
+    Job::Build(AskedBuild {
+        outputs: outputs(operands),
+        settings: link_settings(operands),
+        definitions: operands.all(definitions()),
+        sources: operands.all(sources()),
+        libraries: link_words(operands, None),
+    })
 }
 
 pub(crate) const LINK: Help = Help {
+    word: Word::Link,
     name: "ld",
     about: "Links objects to an executable",
     after_help: "Example:
@@ -39,43 +38,40 @@ pub(crate) const LINK: Help = Help {
   rv ld -o prog prog.o --library libc.a",
 };
 
-pub(crate) fn link<'a>(operands: &mut Operands<'_, 'a>) -> Result<Job<'a>, Refusal> {
+pub(crate) fn link<'a>(operands: &mut Operands<'_, 'a>) -> Job<'a> {
     let files = Texts::alone("OBJ", "The objects, in the order of their sections");
-    let exe = operands.required(executable())?;
-    let map = operands.optional(written_map())?;
-    let debug = operands.flag(names_and_lines())?;
-    Ok(Job::Link(AskedLink {
-        outputs: LinkOutputs { exe, map, debug },
-        settings: link_settings(operands)?,
-        files: link_words(operands, Some(files))?,
-    }))
+    Job::Link(AskedLink {
+        outputs: outputs(operands),
+        settings: link_settings(operands),
+        definitions: operands.all(definitions()),
+        files: link_words(operands, Some(files)),
+    })
 }
 
 pub(crate) const MAP: Help = Help {
+    word: Word::Map,
     name: "map",
     about: "Prints the map of what the sources build",
     after_help: "Example:
   rv map --text-start 0x20000 prog.s",
 };
 
-pub(crate) fn map<'a>(operands: &mut Operands<'_, 'a>) -> Result<Job<'a>, Refusal> {
-    Ok(Job::Map(AskedMap {
-        settings: link_settings(operands)?,
-        sources: operands.all(sources())?,
-    }))
+pub(crate) fn map<'a>(operands: &mut Operands<'_, 'a>) -> Job<'a> {
+    Job::Map(AskedMap {
+        settings: link_settings(operands),
+        definitions: operands.all(definitions()),
+        sources: operands.all(sources()),
+    })
 }
 
-fn executable() -> Text {
-    Text::output("EXE", "The executable to write")
-}
-
-fn written_map() -> Text {
-    Text::long("map", "F", "Writes the map as well")
-}
-
-/// Whether an executable is one for debuggers.
-fn names_and_lines() -> Flag {
-    Flag::letter("debug", 'g', "Adds names and lines for debuggers")
+/// The files that a link writes.
+fn outputs<'a>(operands: &mut Operands<'_, 'a>) -> LinkOutputs<'a> {
+    let debug = "Adds names and lines for debuggers";
+    LinkOutputs {
+        exe: operands.required(Text::output("EXE", "The executable to write")),
+        map: operands.optional(Text::long("map", "F", "Writes the map as well")),
+        debug: operands.flag(Flag::letter("debug", 'g', debug)),
+    }
 }
 
 /// Whether a fault is explained.
@@ -90,61 +86,67 @@ pub(crate) fn sources() -> Texts {
 }
 
 /// How a link is made.
-fn link_settings(operands: &mut Operands<'_, '_>) -> Result<LinkSettings, Refusal> {
-    let options = link_options(operands)?;
-    Ok(LinkSettings {
+fn link_settings(operands: &mut Operands<'_, '_>) -> LinkSettings {
+    let options = link_options(operands);
+    LinkSettings {
         options,
-        pads_ends: pad_ends(operands, options)?,
-        explains: operands.flag(explain())?,
-    })
+        pads_ends: pad_ends(operands, options.gc),
+        explains: operands.flag(explain()),
+    }
 }
 
-/// Whether the ends of regions are padded.
-fn pad_ends(operands: &mut Operands<'_, '_>, options: GroundOptions) -> Result<bool, Refusal> {
+/// The names that the words define.
+fn definitions() -> Texts {
+    let help = "Gives a global name a value, as ram_size=64*1024 or heap=_end+16";
+    Texts::long("defsym", "NAME=N", help)
+}
+
+/// Whether the ends of regions are padded; not where sections are left out.
+fn pad_ends(operands: &mut Operands<'_, '_>, gc: bool) -> bool {
     let help = "Puts 8 zeros behind constants and variables, as GCC loads past an object's end";
-    let pads = operands.flag(Flag::long("pad-ends", help))?;
-    if pads && options.gc {
-        return Err(Refusal::Wanted("--gc-sections leaves out what --pad-ends adds"));
+    let pads = operands.flag(Flag::long("pad-ends", help));
+    if pads && gc {
+        operands.refuse("--gc-sections leaves out what --pad-ends adds");
     }
-    Ok(pads)
+    pads
 }
 
 /// What one can choose of a link.
-pub(crate) fn link_options(operands: &mut Operands<'_, '_>) -> Result<GroundOptions, Refusal> {
+pub(crate) fn link_options(operands: &mut Operands<'_, '_>) -> GroundOptions {
     let start = "The address of the text, decimal or 0x and hexadecimal [default: 0x10000]";
-    let start = operands.optional(Text::long("text-start", "N", start))?;
+    let start = operands.optional(Text::long("text-start", "N", start));
     let origin = "The address of the text, also behind the stack, such as 0x80000000";
-    let origin = operands.optional(Text::long("origin", "N", origin))?;
+    let origin = operands.optional(Text::long("origin", "N", origin));
     let whole = Flag::long("no-relax", "Leaves every call its eight bytes");
-    let relax = !operands.flag(whole)?;
+    let relax = !operands.flag(whole);
     let collects = "Leaves out sections to which nothing leads from the entry";
-    let gc = operands.flag(Flag::long("gc-sections", collects))?;
-    Ok(GroundOptions {
-        bounds: bounds(start, origin)?,
+    let gc = operands.flag(Flag::long("gc-sections", collects));
+    GroundOptions {
+        bounds: bounds(operands, start, origin),
         relax,
         gc,
-    })
+    }
 }
 
 /// Where a program is put: below the stack from the start of its text, or from its origin on.
-fn bounds(start: Option<&str>, origin: Option<&str>) -> Result<Ground, Refusal> {
+fn bounds(operands: &mut Operands<'_, '_>, start: Option<&str>, origin: Option<&str>) -> Ground {
     if start.is_some() && origin.is_some() {
-        return Err(Refusal::Wanted(
-            "--text-start and --origin both say where the text begins: leave one out",
-        ));
+        let wanted = "--text-start and --origin both say where the text begins: leave one out";
+        operands.refuse(wanted);
     }
     if let Some(text) = origin {
         let wanted = "an origin is decimal, or 0x and hexadecimal, below 2^64";
-        return Ok(ground_of(number(text_start(text), wanted)?));
+        return ground_of(number(operands, text_start(text), wanted));
     }
-    let wanted = "a text start is decimal, or 0x and hexadecimal, below 2^64";
-    match start {
-        None => Ok(usual(TEXT_START)),
-        Some(text) => Ok(usual(number(text_start(text), wanted)?)),
+    if let Some(text) = start {
+        let wanted = "a text start is decimal, or 0x and hexadecimal, below 2^64";
+        return usual(number(operands, text_start(text), wanted));
     }
+    usual(TEXT_START)
 }
 
 pub(crate) const ASSEMBLE: Help = Help {
+    word: Word::Assemble,
     name: "as",
     about: "Assembles a source to an object",
     after_help: "Examples:
@@ -155,84 +157,78 @@ What GCC says of the code that it made is taken where it agrees with RV64IMAC an
 -mno-relax leaves every call its eight bytes.",
 };
 
-pub(crate) fn assemble<'a>(operands: &mut Operands<'_, 'a>) -> Result<Job<'a>, Refusal> {
-    let object = operands.required(Text::output("OBJ", "The object to write"))?;
-    let asked = operands.flag(explain())?;
-    let debug = names_source(operands)?;
-    let relax = machine(operands)?;
-    code(operands)?;
+pub(crate) fn assemble<'a>(operands: &mut Operands<'_, 'a>) -> Job<'a> {
+    let object = operands.required(Text::output("OBJ", "The object to write"));
+    let asked = operands.flag(explain());
+    let debug = names_source(operands);
+    let relax = machine(operands);
+    code(operands);
     let include = "As GCC says it; no source includes a file";
-    operands.all(Texts::letter("include", 'I', "DIR", include))?;
+    operands.given(Texts::letter("include", 'I', "DIR", include));
     // GCC deletes the source behind its assembler, so the statement has to be shown while it is there
     let traditional = "As GCC says it; explains a fault, as --explain does";
-    let by_gcc = operands.flag(Flag::long("traditional-format", traditional))?;
+    let by_gcc = operands.flag(Flag::long("traditional-format", traditional));
     let idle = "As GCC says it; has no effect";
-    operands.flag(Flag::letter("warnings", 'W', idle))?;
-    operands.flag(Flag::letter("verbose", 'v', idle))?;
-    Ok(Job::Assemble(AskedObject {
+    operands.flag(Flag::letter("warnings", 'W', idle));
+    operands.flag(Flag::letter("verbose", 'v', idle));
+    Job::Assemble(AskedObject {
         object,
-        source: operands.required(Text::alone("SRC", "The source"))?,
+        source: operands.required(Text::alone("SRC", "The source")),
         relax,
         debug,
-        explains: asked || by_gcc,
-    }))
+        explains: asked | by_gcc,
+    })
 }
 
 /// The words by which GCC asks for debug information; it says one of them, beside its `-Wa,-g`.
 const DEBUG_FORMATS: [&str; 5] = ["gdwarf-5", "gdwarf-4", "gdwarf-3", "gdwarf-2", "gdwarf2"];
 
 /// Whether the object names its source.
-fn names_source(operands: &mut Operands<'_, '_>) -> Result<bool, Refusal> {
+fn names_source(operands: &mut Operands<'_, '_>) -> bool {
     let help = "Names the source in the object, for rv ld -g";
-    let mut names = operands.flag(Flag::letter("debug", 'g', help))?;
+    let mut names = operands.flag(Flag::letter("debug", 'g', help));
     for format in DEBUG_FORMATS {
-        if operands.flag(Flag::long(format, "As GCC says it: -g"))? {
-            names = true;
-        }
+        names |= operands.flag(Flag::long(format, "As GCC says it: -g"));
     }
-    Ok(names)
+    names
 }
 
 /// Takes the options `-m`; whether calls may be shortened, by the last of them that says so.
-fn machine(operands: &mut Operands<'_, '_>) -> Result<bool, Refusal> {
+fn machine(operands: &mut Operands<'_, '_>) -> bool {
     let help = "As GCC says it: arch=rv64imac, abi=lp64, isa-spec=20191213, no-relax";
     let mut relax = true;
-    let given = operands.all(Texts::letter("machine", 'm', "OPTION", help))?;
-    for option in &given {
+    for option in operands.given(Texts::letter("machine", 'm', "OPTION", help)) {
         if !is_machine_option(option) {
-            return Err(foreign(operands.alloc, "-m", option)?);
+            refuse_foreign(operands, "-m", option);
         }
-        match *option {
-            "relax" => relax = true,
-            "no-relax" => relax = false,
-            _ => {}
+        if *option == "relax" {
+            relax = true;
+        } else if *option == "no-relax" {
+            relax = false;
         }
     }
-    Ok(relax)
+    relax
 }
 
 /// Takes the options `-f`.
-fn code(operands: &mut Operands<'_, '_>) -> Result<(), Refusal> {
+fn code(operands: &mut Operands<'_, '_>) {
     let help = "As GCC says it: no-pic";
-    let given = operands.all(Texts::letter("code", 'f', "OPTION", help))?;
-    for option in &given {
+    for option in operands.given(Texts::letter("code", 'f', "OPTION", help)) {
         if !is_code_option(option) {
-            return Err(foreign(operands.alloc, "-f", option)?);
+            refuse_foreign(operands, "-f", option);
         }
     }
-    Ok(())
 }
 
 /// Refuses an option that does not agree with what is assembled.
-fn foreign(alloc: Global, letter: &str, option: &str) -> Result<Refusal, AllocError> {
-    Ok(Refusal::Wrong(format!(in alloc;
-        "{letter}{option} is not for RV64IMAC and lp64 at fixed addresses"
-    )?))
+fn refuse_foreign<'a>(operands: &mut Operands<'_, 'a>, letter: &'static str, option: &'a str) {
+    let behind = " is not for RV64IMAC and lp64 at fixed addresses";
+    operands.refuse_word(letter, option, behind);
 }
 
 /// Refuses words for `as` that ask for debug information in another form: all that `clap` can say of one is that it is a
 /// file's name behind `--`, which misleads.
-pub(crate) fn refuse_debug_formats(alloc: Global, words: &[&str]) -> Result<(), Refusal> {
+pub(crate) fn refuse_debug_formats<'a>(words: &[&'a str]) -> Result<(), Refusal<'a>> {
     if words.get(1).copied() != Some("as") {
         return Ok(());
     }
@@ -241,9 +237,8 @@ pub(crate) fn refuse_debug_formats(alloc: Global, words: &[&str]) -> Result<(), 
             break;
         }
         if is_debug_format(word) {
-            return Err(Refusal::Wrong(format!(in alloc;
-                "'{word}' asks for debug information that is not written: say -g"
-            )?));
+            let behind = "' asks for debug information that is not written: say -g";
+            return Err(Refusal::Wrong("'", word, behind));
         }
     }
     Ok(())

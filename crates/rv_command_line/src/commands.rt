@@ -1,9 +1,10 @@
 //! The words as commands of `clap`, which takes them apart and writes the help.
 
-use crate::operands::{Entry, Form, Need};
-use crate::words::{Help, WORDS, Word};
-use clap::{Arg, ArgAction, Command, Error};
+use crate::operands::{Entry, Name, Need, Uses};
+use crate::words::{Help, WORDS, help_of};
+use clap::{Arg, ArgAction, Command};
 use std::alloc::{AllocError, Global};
+use std::slice::from_ref;
 
 /// What `--version` says. `scripts/marks.py` writes over the words in brackets, in the finished executable, whether it
 /// was proved and of which commit it is.
@@ -41,97 +42,121 @@ Exit status: 0 done; 1 refused, the fault stands on standard error; 2 wrong word
 
 /// The command of the program. Where `first` names a word, it has that one alone, which is all that the rest of the words
 /// speak to.
-pub(crate) fn command<'a>(alloc: Global, first: Option<&str>) -> Result<Command<'a>, Error> {
+pub(crate) fn command<'a>(alloc: Global, first: Option<&str>) -> Result<Command<'a>, AllocError> {
     let plain = Command::new(alloc, "rv")
         .version(VERSION)
         .about("Assembles, links and runs bare RISC-V programs (RV64IMAC).")
         .after_help(HELP);
-    match first.and_then(Word::of) {
-        Some(word) => Ok(plain.subcommand(word_command(alloc, word)?)?),
-        None => with_all(alloc, plain),
+    let mut entries = Vec::new(alloc);
+    match first.and_then(help_of) {
+        Some(help) => with_words(alloc, plain, from_ref(help), &mut entries),
+        None => with_words(alloc, plain, &WORDS, &mut entries),
     }
 }
 
-/// The command with all words.
-fn with_all<'a>(alloc: Global, plain: Command<'a>) -> Result<Command<'a>, Error> {
-    let mut all = plain;
-    for word in &WORDS {
-        all = all.subcommand(word_command(alloc, *word)?)?;
+/// The command with words; `entries` is room for the operands of one.
+fn with_words<'a>(
+    alloc: Global,
+    plain: Command<'a>,
+    words: &[Help],
+    entries: &mut Vec<Entry>,
+) -> Result<Command<'a>, AllocError> {
+    let mut command = plain;
+    for help in words {
+        command = command.subcommand(word_command(alloc, help, entries)?)?;
     }
-    Ok(all)
-}
-
-fn word_command<'a>(alloc: Global, word: Word) -> Result<Command<'a>, Error> {
-    let entries = word.entries(alloc)?;
-    described(alloc, &word.help(), entries.as_slice())
+    Ok(command)
 }
 
 /// The command of a word by what it says of itself and by its operands.
-fn described<'a>(alloc: Global, help: &Help, entries: &[Entry]) -> Result<Command<'a>, Error> {
+fn word_command<'a>(
+    alloc: Global,
+    help: &Help,
+    entries: &mut Vec<Entry>,
+) -> Result<Command<'a>, AllocError> {
+    help.word.list(alloc, entries)?;
     let mut command = Command::new(alloc, help.name)
         .about(help.about)
         .after_help(help.after_help);
-    for entry in entries {
+    for entry in entries.as_slice() {
         command = command.arg(argument(alloc, entry)?)?;
     }
     Ok(command)
 }
 
+/// What `clap` knows of an operand.
 fn argument<'a>(alloc: Global, entry: &Entry) -> Result<Arg<'a>, AllocError> {
-    let plain = Arg::new(alloc, entry.id).help(entry.help);
-    needed(written(plain, entry.form), entry.need)
+    let plain = match entry.name {
+        Name::Long(long) => Arg::new(alloc, entry.id).long(long),
+        Name::Letter(letter) => Arg::new(alloc, entry.id).short(letter),
+        Name::Alone => Arg::new(alloc, entry.id),
+    };
+    let values = values_of(entry.uses);
+    let (one, other) = unless(entry.need);
+    plain
+        .help(entry.help)
+        .value_name(entry.value)
+        .action(values.action)
+        .num_args(values.least..=values.most)
+        .default_missing_values(values.missing)
+        .required(matches!(entry.need, Need::Required))
+        .required_unless_present_any(one.as_slice())?
+        .required_unless_present_any(other.as_slice())?
+        .requires_all(beside(entry.need).as_slice())?
+        .conflicts_with_all(against(entry.need).as_slice())
 }
 
-/// The argument as it is written.
-fn written<'a>(arg: Arg<'a>, form: Form) -> Arg<'a> {
-    match form {
-        Form::Flag(long) => flag(arg.long(long)),
-        Form::Letter(letter) => flag(arg.short(letter)),
-        Form::RepeatedFlag(long) => repeated_flag(arg.long(long)),
-        Form::Long(long, value) => valued(arg.long(long), value),
-        Form::RepeatedLong(long, value) => repeated(arg.long(long), value),
-        Form::Short(letter, value) => valued(arg.short(letter), value),
-        Form::Repeated(letter, value) => repeated(arg.short(letter), value),
-        Form::Single(value) => valued(arg, value),
-        Form::Several(value) => several(arg, value),
+/// What `clap` does with a use of an operand, and how many values it has.
+#[derive(Clone, Copy, Drop)]
+struct Values {
+    action: ArgAction,
+    least: usize,
+    most: usize,
+    /// The values of a use without any, where it has some.
+    missing: &'static [&'static str],
+}
+
+fn values_of(uses: Uses) -> Values {
+    let (action, least, most) = match uses {
+        Uses::Flag => (ArgAction::SetTrue, 0, 0),
+        Uses::Flags => (ArgAction::Append, 0, 0),
+        Uses::One => (ArgAction::Set, 1, 1),
+        Uses::Each => (ArgAction::Append, 1, 1),
+        Uses::Several => (ArgAction::Append, 1, usize::MAX),
+    };
+    let missing: &[&str] = match uses {
+        Uses::Flags => &[""],
+        _ => &[],
+    };
+    Values {
+        action,
+        least,
+        most,
+        missing,
     }
 }
 
-/// An option without a value.
-fn flag<'a>(arg: Arg<'a>) -> Arg<'a> {
-    arg.action(ArgAction::SetTrue)
-}
-
-/// An option without a value whose uses are kept, each as an empty value.
-fn repeated_flag<'a>(arg: Arg<'a>) -> Arg<'a> {
-    arg.action(ArgAction::Append)
-        .num_args(0)
-        .default_missing_value("")
-}
-
-/// An argument with a value.
-fn valued<'a>(arg: Arg<'a>, value: &'static str) -> Arg<'a> {
-    arg.value_name(value)
-}
-
-/// An argument whose values are kept, however often it is written.
-fn repeated<'a>(arg: Arg<'a>, value: &'static str) -> Arg<'a> {
-    arg.value_name(value).action(ArgAction::Append)
-}
-
-/// Words alone, one at least.
-fn several<'a>(arg: Arg<'a>, value: &'static str) -> Arg<'a> {
-    repeated(arg, value).num_args(1..)
-}
-
-/// The argument that has to be there, or may.
-fn needed<'a>(arg: Arg<'a>, need: Need) -> Result<Arg<'a>, AllocError> {
+/// The operands of which one stands for one with this need.
+fn unless(need: Need) -> (Option<&'static str>, Option<&'static str>) {
     match need {
-        Need::Optional => Ok(arg),
-        Need::Required => Ok(arg.required(true)),
-        Need::Unless(id) => arg.required_unless_present(id),
-        Need::UnlessEither(one, other) => arg.required_unless_present_any(&[one, other]),
-        Need::Beside(id) => arg.requires_arg(id),
-        Need::Against(id) => arg.conflicts_with(id),
+        Need::Unless(other) => (Some(other), None),
+        Need::UnlessEither(one, other) => (Some(one), Some(other)),
+        _ => (None, None),
+    }
+}
+
+/// The operand that has to be there beside one with this need.
+fn beside(need: Need) -> Option<&'static str> {
+    match need {
+        Need::Beside(other) => Some(other),
+        _ => None,
+    }
+}
+
+/// The operand that must not be there beside one with this need.
+fn against(need: Need) -> Option<&'static str> {
+    match need {
+        Need::Against(other) => Some(other),
+        _ => None,
     }
 }

@@ -1,12 +1,13 @@
 //! The words over files: what stands in them, and images of executables.
 
 use crate::numbers::number;
-use crate::operands::{Flag, Operands, Refusal, Text, Texts};
-use crate::words::Help;
+use crate::operands::{Flag, Operands, Text, Texts};
+use crate::words::{Help, Word};
 use rv_job::{AskedCode, AskedImage, ImageFormat, Job, OutputFormat, TextFormat};
 use rv_numbers::text_start;
 
 pub(crate) const OBJDUMP: Help = Help {
+    word: Word::Objdump,
     name: "objdump",
     about: "Prints the instructions of an executable, statement by statement or as a source",
     after_help: "Examples:
@@ -14,24 +15,25 @@ pub(crate) const OBJDUMP: Help = Help {
   rv objdump --raw prog > again.s",
 };
 
-pub(crate) fn objdump<'a>(operands: &mut Operands<'_, 'a>) -> Result<Job<'a>, Refusal> {
+pub(crate) fn objdump<'a>(operands: &mut Operands<'_, 'a>) -> Job<'a> {
     let map = Text::long("map", "F", "The map of the executable");
     let raw = Flag::long("raw", "Prints a source that builds the same text again");
     // one of both is there, and never the other
-    let named = operands.optional(map.unless(raw))?;
-    operands.flag(raw.against(map))?;
-    let exe = operands.required(executable())?;
+    let named = operands.optional(map.unless(raw));
+    operands.flag(raw.against(map));
+    let exe = operands.required(executable());
     match named {
-        None => Ok(Job::Raw { exe }),
-        Some(name) => Ok(Job::Objdump {
+        None => Job::Raw { exe },
+        Some(name) => Job::Objdump {
             map: name,
             exe,
             map_first: operands.is_before(map, executable()),
-        }),
+        },
     }
 }
 
 pub(crate) const CODE: Help = Help {
+    word: Word::Code,
     name: "dis",
     about: "Prints the instructions of a file, with names, bytes and relocations",
     after_help: "Examples:
@@ -42,32 +44,34 @@ pub(crate) const CODE: Help = Help {
 The columns are those of GNU's objdump -d -r.",
 };
 
-pub(crate) fn code<'a>(operands: &mut Operands<'_, 'a>) -> Result<Job<'a>, Refusal> {
-    let map = operands.optional(map_with_names())?;
+pub(crate) fn code<'a>(operands: &mut Operands<'_, 'a>) -> Job<'a> {
+    let map = operands.optional(map_with_names());
     let base = Flag::long("base", "Shows base instructions and no aliases");
-    let aliases = !operands.flag(base)?;
-    Ok(Job::Code(AskedCode {
-        file: operands.required(file())?,
+    let aliases = !operands.flag(base);
+    Job::Code(AskedCode {
+        file: operands.required(file()),
         map,
         map_first: operands.is_before(map_with_names(), file()),
         aliases,
-    }))
+    })
 }
 
 pub(crate) const DUMP: Help = Help {
+    word: Word::Dump,
     name: "dump",
     about: "Prints the bytes of a file in hexadecimal",
     after_help: "Example:
   rv dump prog",
 };
 
-pub(crate) fn dump<'a>(operands: &mut Operands<'_, 'a>) -> Result<Job<'a>, Refusal> {
-    Ok(Job::Dump {
-        file: operands.required(Text::alone("FILE", "Any file"))?,
-    })
+pub(crate) fn dump<'a>(operands: &mut Operands<'_, 'a>) -> Job<'a> {
+    Job::Dump {
+        file: operands.required(Text::alone("FILE", "Any file")),
+    }
 }
 
 pub(crate) const SIZE: Help = Help {
+    word: Word::Size,
     name: "size",
     about: "Prints the sizes of files: code and constants, variables, zeros",
     after_help: "Example:
@@ -77,15 +81,16 @@ Several files have a line of their total.
 The objects of --json have file, text, data and bss, and no total.",
 };
 
-pub(crate) fn size<'a>(operands: &mut Operands<'_, 'a>) -> Result<Job<'a>, Refusal> {
+pub(crate) fn size<'a>(operands: &mut Operands<'_, 'a>) -> Job<'a> {
     let files = Texts::alone("FILE", "Objects and executables");
-    Ok(Job::Size {
-        format: output_format(operands, json())?,
-        files: operands.all(files)?,
-    })
+    Job::Size {
+        format: output_format(operands, json()),
+        files: operands.all(files),
+    }
 }
 
 pub(crate) const NAMES: Help = Help {
+    word: Word::Names,
     name: "nm",
     about: "Prints the names of a file and where they stand",
     after_help: "Examples:
@@ -95,25 +100,26 @@ pub(crate) const NAMES: Help = Help {
 The objects of --json have name, letter, and value or null.",
 };
 
-pub(crate) fn names<'a>(operands: &mut Operands<'_, 'a>) -> Result<Job<'a>, Refusal> {
-    Ok(Job::Names {
-        map: operands.optional(map_with_names())?,
-        format: output_format(operands, json())?,
-        file: operands.required(file())?,
-    })
+pub(crate) fn names<'a>(operands: &mut Operands<'_, 'a>) -> Job<'a> {
+    Job::Names {
+        map: operands.optional(map_with_names()),
+        format: output_format(operands, json()),
+        file: operands.required(file()),
+    }
 }
 
 pub(crate) const ELF: Help = Help {
+    word: Word::Elf,
     name: "elf",
     about: "Prints the header, sections, segments, relocations and symbols of a file",
     after_help: "Example:
   rv elf prog.o",
 };
 
-pub(crate) fn elf<'a>(operands: &mut Operands<'_, 'a>) -> Result<Job<'a>, Refusal> {
-    Ok(Job::Elf {
-        file: operands.required(Text::alone("FILE", "An object or an executable"))?,
-    })
+pub(crate) fn elf<'a>(operands: &mut Operands<'_, 'a>) -> Job<'a> {
+    Job::Elf {
+        file: operands.required(Text::alone("FILE", "An object or an executable")),
+    }
 }
 
 /// That objects of JSON are written.
@@ -122,14 +128,11 @@ pub(crate) fn json() -> Flag {
 }
 
 /// The format that an option asks for.
-pub(crate) fn output_format(
-    operands: &mut Operands<'_, '_>,
-    json: Flag,
-) -> Result<OutputFormat, Refusal> {
-    if operands.flag(json)? {
-        return Ok(OutputFormat::Json);
+pub(crate) fn output_format(operands: &mut Operands<'_, '_>, json: Flag) -> OutputFormat {
+    match operands.flag(json) {
+        true => OutputFormat::Json,
+        false => OutputFormat::Text,
     }
-    Ok(OutputFormat::Text)
 }
 
 fn executable() -> Text {
@@ -145,6 +148,7 @@ fn map_with_names() -> Text {
 }
 
 pub(crate) const IMAGE: Help = Help {
+    word: Word::Image,
     name: "image",
     about: "Writes an image of an executable for flash memory",
     after_help: "Examples:
@@ -155,44 +159,56 @@ pub(crate) const IMAGE: Help = Help {
 An image has what the file holds of its segments, at their physical addresses.",
 };
 
-pub(crate) fn image<'a>(operands: &mut Operands<'_, 'a>) -> Result<Job<'a>, Refusal> {
-    Ok(Job::Image(AskedImage {
-        format: format(operands)?,
-        fill: fill(operands)?,
-        output: operands.required(Text::output("OUT", "The image to write"))?,
-        exe: operands.required(executable())?,
-    }))
+pub(crate) fn image<'a>(operands: &mut Operands<'_, 'a>) -> Job<'a> {
+    Job::Image(AskedImage {
+        format: format(operands),
+        fill: fill(operands),
+        output: operands.required(Text::output("OUT", "The image to write")),
+        exe: operands.required(executable()),
+    })
 }
 
+/// The formats of images by their options, with the help of each.
+const FORMATS: [(&str, &str, ImageFormat); 4] = [
+    (
+        "bin",
+        "Raw bytes, from the lowest address on",
+        ImageFormat::Binary,
+    ),
+    ("ihex", "Intel HEX", ImageFormat::Text(TextFormat::IntelHex)),
+    (
+        "srec",
+        "Motorola S-records",
+        ImageFormat::Text(TextFormat::SRecords),
+    ),
+    (
+        "vhex",
+        "What Verilog's $readmemh reads",
+        ImageFormat::Text(TextFormat::MemoryText),
+    ),
+];
+
 /// The format that the words name.
-fn format(operands: &mut Operands<'_, '_>) -> Result<ImageFormat, Refusal> {
-    let bin = Flag::long("bin", "Raw bytes, from the lowest address on");
-    let vhex = Flag::long("vhex", "What Verilog's $readmemh reads");
-    let named = (
-        operands.flag(bin)?,
-        operands.flag(Flag::long("ihex", "Intel HEX"))?,
-        operands.flag(Flag::long("srec", "Motorola S-records"))?,
-        operands.flag(vhex)?,
-    );
-    match named {
-        (true, false, false, false) => Ok(ImageFormat::Binary),
-        (false, true, false, false) => Ok(ImageFormat::Text(TextFormat::IntelHex)),
-        (false, false, true, false) => Ok(ImageFormat::Text(TextFormat::SRecords)),
-        (false, false, false, true) => Ok(ImageFormat::Text(TextFormat::MemoryText)),
-        _ => operands.refuse(
-            ImageFormat::Binary,
-            "one of --bin, --ihex, --srec and --vhex is wanted",
-        ),
+fn format(operands: &mut Operands<'_, '_>) -> ImageFormat {
+    let mut format = ImageFormat::Binary;
+    let mut count = 0u8;
+    for (long, help, named) in FORMATS {
+        if operands.flag(Flag::long(long, help)) {
+            format = named;
+            count = count.saturating_add(1);
+        }
     }
+    if count != 1 {
+        operands.refuse("one of --bin, --ihex, --srec and --vhex is wanted");
+    }
+    format
 }
 
 /// The byte that gaps are filled with.
-fn fill(operands: &mut Operands<'_, '_>) -> Result<Option<u8>, Refusal> {
+fn fill(operands: &mut Operands<'_, '_>) -> Option<u8> {
     let help = "Fills the gaps between segments [default: none, in a binary 0]";
-    let Some(text) = operands.optional(Text::long("fill", "BYTE", help))? else {
-        return Ok(None);
-    };
+    let text = operands.optional(Text::long("fill", "BYTE", help))?;
     let read = text_start(text).filter(|byte| *byte < 256);
-    let byte = number(read, "a byte is decimal, or 0x and hexadecimal, below 256")?;
-    Ok(Some((byte % 256) as u8))
+    let wanted = "a byte is decimal, or 0x and hexadecimal, below 256";
+    Some((number(operands, read, wanted) % 256) as u8)
 }

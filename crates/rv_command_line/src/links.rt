@@ -1,34 +1,30 @@
 //! The words that say what a link takes.
 
-use crate::operands::{Operands, Refusal, Texts};
+use crate::operands::{Operands, Texts};
 use rv_job::{LinkInput, LinkWord, LinkWords};
-use std::alloc::Global;
+use std::alloc::AllocError;
 
 /// What a link takes, in the order of the words; `files` are the words alone, where they are among it, of which one has to be
 /// there unless an archive is.
 pub(crate) fn link_words<'a>(
     operands: &mut Operands<'_, 'a>,
     files: Option<Texts>,
-) -> Result<LinkWords<'a>, Refusal> {
-    let alloc: Global = operands.alloc;
-    let mut placed = Vec::new(alloc);
-    put(operands, library(), Kind::Archive, &mut placed)?;
-    put(operands, named(), Kind::Named, &mut placed)?;
+) -> LinkWords<'a> {
+    let mut placed = Vec::new(operands.alloc);
+    let mut words = Vec::new(operands.alloc);
+    put(operands, library(), Kind::Archive, &mut placed);
+    put(operands, named(), Kind::Named, &mut placed);
     let folder = Texts::letter("folder", 'L', "DIR", "A folder in which -l looks");
-    let folders = operands.all(folder)?;
-    put(operands, start_group(), Kind::StartGroup, &mut placed)?;
-    put(operands, end_group(), Kind::EndGroup, &mut placed)?;
+    let folders = operands.all(folder);
+    put(operands, start_group(), Kind::StartGroup, &mut placed);
+    put(operands, end_group(), Kind::EndGroup, &mut placed);
     if let Some(files) = files {
         let files = files.unless_either(library(), named());
-        put(operands, files, Kind::Object, &mut placed)?;
+        put(operands, files, Kind::Object, &mut placed);
     }
-    placed.sort_by_key(|word| word.0)?;
-    let mut words = Vec::new(alloc);
-    for (_, word) in &placed {
-        words.push(*word)?;
-    }
-    check_groups(words.as_slice())?;
-    Ok(LinkWords { words, folders })
+    operands.try_keep(put_in_order(&mut placed, &mut words));
+    check_groups(operands, words.as_slice());
+    LinkWords { words, folders }
 }
 
 fn library() -> Texts {
@@ -78,41 +74,52 @@ fn put<'a>(
     texts: Texts,
     kind: Kind,
     placed: &mut Vec<(usize, LinkWord<'a>)>,
-) -> Result<(), Refusal> {
-    let uses = operands.all_placed(texts)?;
-    for (place, value) in &uses {
+) {
+    let values = operands.given(texts);
+    let places = operands.places(texts);
+    operands.try_keep(put_uses(places, values, kind, placed));
+}
+
+fn put_uses<'a>(
+    places: &[usize],
+    values: &[&'a str],
+    kind: Kind,
+    placed: &mut Vec<(usize, LinkWord<'a>)>,
+) -> Result<(), AllocError> {
+    for (place, value) in places.iter().zip(values) {
         placed.push((*place, kind.with_value(value)))?;
     }
     Ok(())
 }
 
-/// Refuses groups that do not start or end, or stand in one another.
-fn check_groups(words: &[LinkWord<'_>]) -> Result<(), Refusal> {
-    let mut is_inside = false;
-    for word in words {
-        is_inside = is_inside_after(is_inside, word)?;
-    }
-    if is_inside {
-        return Err(Refusal::Wanted("--start-group has no --end-group behind it"));
+/// Puts words by their places.
+fn put_in_order<'a>(
+    placed: &mut Vec<(usize, LinkWord<'a>)>,
+    words: &mut Vec<LinkWord<'a>>,
+) -> Result<(), AllocError> {
+    placed.sort_by_key(|word| word.0)?;
+    for (_, word) in placed.as_slice() {
+        words.push(*word)?;
     }
     Ok(())
 }
 
-/// Whether one is inside a group behind a word.
-fn is_inside_after(is_inside: bool, word: &LinkWord<'_>) -> Result<bool, Refusal> {
-    match word {
-        LinkWord::StartGroup => {
-            if is_inside {
-                return Err(Refusal::Wanted("--start-group stands in another group"));
+/// Refuses groups that do not start or end, or stand in one another.
+fn check_groups(operands: &mut Operands<'_, '_>, words: &[LinkWord<'_>]) {
+    let mut is_inside = false;
+    for word in words {
+        match word {
+            LinkWord::StartGroup if is_inside => {
+                operands.refuse("--start-group stands in another group");
             }
-            Ok(true)
-        }
-        LinkWord::EndGroup => {
-            if !is_inside {
-                return Err(Refusal::Wanted("--end-group has no --start-group before it"));
+            LinkWord::EndGroup if !is_inside => {
+                operands.refuse("--end-group has no --start-group before it");
             }
-            Ok(false)
+            LinkWord::StartGroup | LinkWord::EndGroup => is_inside = !is_inside,
+            LinkWord::Input(_) => {}
         }
-        _ => Ok(is_inside),
+    }
+    if is_inside {
+        operands.refuse("--start-group has no --end-group behind it");
     }
 }

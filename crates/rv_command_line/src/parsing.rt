@@ -4,9 +4,9 @@ use crate::builds::refuse_debug_formats;
 use crate::commands::command;
 use crate::operands::{Operands, Refusal};
 use crate::runs::default_run;
-use crate::words::Word;
+use crate::words::help_of;
 use clap::error::ErrorKind;
-use clap::{Command, Error};
+use clap::{ArgMatches, Command, Error};
 use rv_job::Job;
 use std::alloc::{AllocError, Global};
 
@@ -15,37 +15,59 @@ use std::alloc::{AllocError, Global};
 pub fn parse_job<'a>(
     alloc: Global,
     words: &'a [&'a str],
-    limit: Option<&str>,
+    limit: Option<&'a str>,
 ) -> Result<Job<'a>, Error> {
     let mut command = command(alloc, words.get(1).copied())?;
-    match refuse_debug_formats(alloc, words) {
-        Ok(()) => {}
-        Err(refusal) => return Err(usage(&mut command, refusal)?),
-    }
-    let matches = command.try_get_matches_from_mut(words)?;
-    let asked = match matches.subcommand() {
-        Some((name, found)) => job_of(name, &mut Operands::of(alloc, found, limit)),
-        None => default_run(alloc, limit),
+    job_by(alloc, &mut command, words, limit)
+}
+
+/// What the words ask for by a command that is lent, so that it is dropped in one place.
+fn job_by<'a>(
+    alloc: Global,
+    command: &mut Command<'a>,
+    words: &'a [&'a str],
+    limit: Option<&'a str>,
+) -> Result<Job<'a>, Error> {
+    let asked = match refuse_debug_formats(words) {
+        Ok(()) => {
+            let matches = command.try_get_matches_from_mut(words)?;
+            job_of(alloc, &matches, limit)
+        }
+        Err(refusal) => Err(refusal),
     };
     match asked {
         Ok(job) => Ok(job),
-        Err(refusal) => Err(usage(&mut command, refusal)?),
+        Err(refusal) => Err(usage(alloc, command, refusal)?),
     }
 }
 
-/// The job of a word by its name; `clap` finds no name but those of its words.
-fn job_of<'a>(name: &str, operands: &mut Operands<'_, 'a>) -> Result<Job<'a>, Refusal> {
-    match Word::of(name) {
-        Some(word) => word.job(operands),
-        None => Err(Refusal::Wanted("no such word")),
-    }
+/// The job of what was found; `clap` finds no word but those of the table.
+fn job_of<'a>(
+    alloc: Global,
+    matches: &ArgMatches<'a>,
+    limit: Option<&'a str>,
+) -> Result<Job<'a>, Refusal<'a>> {
+    let mut listed = Vec::new(alloc);
+    let (name, found) = matches.subcommand().unwrap_or(("", matches));
+    let mut operands = Operands::new(alloc, Some(found), limit, &mut listed);
+    let job = match help_of(name) {
+        Some(help) => help.word.job(&mut operands),
+        None => default_run(&mut operands),
+    };
+    operands.end(job)
 }
 
 /// The fault of words that are wrong, with the usage of the program below.
-fn usage(command: &mut Command<'_>, refusal: Refusal) -> Result<Error, AllocError> {
+fn usage(
+    alloc: Global,
+    command: &mut Command<'_>,
+    refusal: Refusal<'_>,
+) -> Result<Error, AllocError> {
     match refusal {
-        Refusal::Wanted(wanted) => command.error(ErrorKind::ValueValidation, wanted),
-        Refusal::Wrong(said) => command.error(ErrorKind::ValueValidation, said.as_str()),
+        Refusal::Wrong(before, word, behind) => {
+            let said = format!(in alloc; "{before}{word}{behind}")?;
+            command.error(ErrorKind::ValueValidation, said.as_str())
+        }
         Refusal::Memory => Err(AllocError),
     }
 }

@@ -3,16 +3,16 @@
 use crate::builds::explain;
 use crate::files::{json, output_format};
 use crate::numbers::{count, number};
-use crate::operands::{Flag, Operands, Refusal, Text, Texts};
-use crate::words::Help;
+use crate::operands::{Flag, Operands, Text, Texts};
+use crate::words::{Help, Word};
 use rv_job::{Asked, Coverage, Debugged, Job, LineForm, Results, Shown, Until};
-use rv_numbers::{amount, decimal, text_start};
-use std::alloc::Global;
+use rv_numbers::{amount, text_start};
 
 /// The most instructions that are executed unless the words or the environment say otherwise.
 const LIMIT: u64 = 1_000_000_000_000;
 
 pub(crate) const RUN: Help = Help {
+    word: Word::Run,
     name: "run",
     about: "Runs an executable, or builds sources and runs them",
     after_help: "Examples:
@@ -21,6 +21,7 @@ pub(crate) const RUN: Help = Help {
   rv run --limit 10M prog < input
   rv run --report --map prog.map prog
   rv run --state prog.json --until f prog.s
+  rv run --board virt hello.s
   rv run - < prog.s
 
 Standard input is the guest's input, and its console is standard output.
@@ -40,52 +41,79 @@ Of a run that --until ends, the end is Reached, and the exit status 0. A number 
 text of its digits, and what is not known is null.",
 };
 
-pub(crate) fn run<'a>(operands: &mut Operands<'_, 'a>) -> Result<Job<'a>, Refusal> {
-    let limit = limit(operands)?;
-    let results = results(operands)?;
-    let map = operands.optional(map())?;
-    let explains = operands.flag(explain())?;
-    let asked = asked(operands, map, limit, explains)?;
+pub(crate) fn run<'a>(operands: &mut Operands<'_, 'a>) -> Job<'a> {
+    let limit = limit(operands);
+    let results = results(operands);
+    let map = operands.optional(map());
+    let explains = operands.flag(explain());
+    let on_board = on_board(operands);
+    let asked = asked(operands, map, limit, explains);
     let is_placed = results.report.is_some() || asked.until.is_some();
-    if asked.map.is_some() && !is_placed {
-        return Err(Refusal::Wanted("--map goes with --report or --until"));
+    if map.is_some() && !is_placed {
+        operands.refuse("--map goes with --report or --until");
     }
-    if is_placed || results.state.is_some() || asked.parts_errors {
-        return Ok(Job::Watch(asked, results));
+    let is_watched = is_placed || results.state.is_some() || asked.parts_errors;
+    if is_watched && on_board {
+        operands.refuse("--board goes without --report, --state, --until and --stderr");
     }
-    Ok(Job::Run(asked))
+    if on_board {
+        Job::RunOnBoard(asked)
+    } else if is_watched {
+        Job::Watch(asked, results)
+    } else {
+        Job::Run(asked)
+    }
+}
+
+/// Whether the run is one on the board.
+fn on_board(operands: &mut Operands<'_, '_>) -> bool {
+    let help = "Runs on a board: virt has the RAM, the UART and the test device of QEMU's";
+    let Some(name) = operands.optional(Text::long("board", "NAME", help)) else {
+        return false;
+    };
+    if name != "virt" {
+        operands.refuse_word("there is no board '", name, "': virt is one");
+    }
+    true
 }
 
 /// What is told of a run once it has ended.
-fn results<'a>(operands: &mut Operands<'_, 'a>) -> Result<Results<'a>, Refusal> {
+fn results<'a>(operands: &mut Operands<'_, 'a>) -> Results<'a> {
     let reports = Flag::long(
         "report",
         "Says how the run ended, and shows the registers and the latest instructions",
     );
-    let is_report = operands.flag(reports)?;
-    let format = output_format(operands, json().beside(reports))?;
+    let is_report = operands.flag(reports);
+    let format = output_format(operands, json().beside(reports));
     let state = "Writes as JSON how the run ended: registers, count, digests of memory and console";
-    Ok(Results {
+    Results {
         report: is_report.then_some(format),
-        state: operands.optional(Text::long("state", "FILE", state))?,
-    })
+        state: operands.optional(Text::long("state", "FILE", state)),
+    }
 }
 
 /// What is done without words: a source on standard input is run.
-pub(crate) fn default_run<'a>(alloc: Global, given: Option<&str>) -> Result<Job<'a>, Refusal> {
-    Ok(Job::Run(Asked {
-        file: "-",
-        others: Vec::new(alloc),
+pub(crate) fn default_run<'a>(operands: &mut Operands<'_, 'a>) -> Job<'a> {
+    let limit = default_limit(operands);
+    Job::Run(plain("-", Vec::new(operands.alloc), limit))
+}
+
+/// A run of files up to a limit, of which nothing else is asked.
+fn plain<'a>(file: &'a str, others: Vec<&'a str>, limit: u64) -> Asked<'a> {
+    Asked {
+        file,
+        others,
         map: None,
         map_first: false,
-        limit: default_limit(alloc, given)?,
+        limit,
         until: None,
         parts_errors: false,
         explains: false,
-    }))
+    }
 }
 
 pub(crate) const TRACE: Help = Help {
+    word: Word::Trace,
     name: "trace",
     about: "Runs a program and shows each instruction",
     after_help: "Examples:
@@ -111,10 +139,11 @@ the register that was set 'x10 <- N', what was stored '[A] <- N', the bytes that
 hexadecimal, and have two digits a byte in what was read or stored.",
 };
 
-pub(crate) fn trace<'a>(operands: &mut Operands<'_, 'a>) -> Result<Job<'a>, Refusal> {
+pub(crate) fn trace<'a>(operands: &mut Operands<'_, 'a>) -> Job<'a> {
     let from = "The number of the first instruction that is shown [default: 1]";
-    let first = count(operands, Text::long("from", "N", from), 1, COUNT)?;
-    let count = lines(operands)?;
+    let first = count(operands, Text::long("from", "N", from), COUNT).unwrap_or(1);
+    let lines = "How many instructions are shown; the run ends after them";
+    let count = count(operands, Text::long("count", "N", lines), COUNT);
     let output = Text::output(
         "FILE",
         "Writes the lines to a file instead of standard error",
@@ -122,38 +151,35 @@ pub(crate) fn trace<'a>(operands: &mut Operands<'_, 'a>) -> Result<Job<'a>, Refu
     let shown = Shown {
         first,
         count,
-        output: operands.optional(output)?,
-        form: line_form(operands, first)?,
+        output: operands.optional(output),
+        form: line_form(operands, first),
     };
-    Ok(Job::Trace(looked_at(operands)?, shown))
+    Job::Trace(looked_at(operands), shown)
 }
 
 /// What a line of a trace shows; `first` is the number of the first instruction that is shown.
-fn line_form(operands: &mut Operands<'_, '_>, first: u64) -> Result<LineForm, Refusal> {
+fn line_form(operands: &mut Operands<'_, '_>, first: u64) -> LineForm {
     let plain =
         "Leaves out numbers, addresses and names of files, so that two traces can be compared";
-    let is_plain = operands.flag(Flag::long("plain", plain))?;
+    let is_plain = operands.flag(Flag::long("plain", plain));
     let events = "Writes each step's event in full, for programs";
-    let are_events = operands.flag(Flag::long("events", events))?;
-    match (is_plain, are_events) {
-        (false, false) => Ok(LineForm::Whole),
-        (true, false) => Ok(LineForm::Plain),
-        (false, true) if first > 1 => Err(Refusal::Wanted("--events goes without --from")),
-        (false, true) => Ok(LineForm::Event),
-        (true, true) => Err(Refusal::Wanted("--events goes without --plain")),
+    if !operands.flag(Flag::long("events", events)) {
+        return match is_plain {
+            true => LineForm::Plain,
+            false => LineForm::Whole,
+        };
     }
-}
-
-/// How many instructions are shown.
-fn lines(operands: &mut Operands<'_, '_>) -> Result<Option<u64>, Refusal> {
-    let help = "How many instructions are shown; the run ends after them";
-    match operands.optional(Text::long("count", "N", help))? {
-        Some(text) => Ok(Some(number(decimal(text), COUNT)?)),
-        None => Ok(None),
+    if is_plain {
+        operands.refuse("--events goes without --plain");
     }
+    if first > 1 {
+        operands.refuse("--events goes without --from");
+    }
+    LineForm::Event
 }
 
 pub(crate) const STATS: Help = Help {
+    word: Word::Stats,
     name: "stats",
     about: "Runs a program and counts what it executes",
     after_help: "Examples:
@@ -168,7 +194,7 @@ branches_taken, branches_not_taken, deepest_stack, kinds, mnemonics, calls (addr
 distance, count), end, status of an exit, and with --lines lines (file, line, count).",
 };
 
-pub(crate) fn stats<'a>(operands: &mut Operands<'_, 'a>) -> Result<Job<'a>, Refusal> {
+pub(crate) fn stats<'a>(operands: &mut Operands<'_, 'a>) -> Job<'a> {
     let lines = Flag::long("lines", "Shows how often each line was executed");
     let lcov = Text::long(
         "lcov",
@@ -176,14 +202,15 @@ pub(crate) fn stats<'a>(operands: &mut Operands<'_, 'a>) -> Result<Job<'a>, Refu
         "Writes how often each line was executed as lcov does",
     );
     let coverage = Coverage {
-        lines: operands.flag(lines)?,
-        lcov: operands.optional(lcov)?,
-        format: output_format(operands, json())?,
+        lines: operands.flag(lines),
+        lcov: operands.optional(lcov),
+        format: output_format(operands, json()),
     };
-    Ok(Job::Stats(looked_at(operands)?, coverage))
+    Job::Stats(looked_at(operands), coverage)
 }
 
 pub(crate) const GDB: Help = Help {
+    word: Word::Gdb,
     name: "gdb",
     about: "Lets gdb debug a program, forwards and backwards",
     after_help: "Examples:
@@ -199,62 +226,47 @@ gdb writes begins a new run at that state, so gdb does not go back beyond it. 'm
 where the run stands, and 'monitor limit N' has it stop after N instructions.",
 };
 
-pub(crate) fn gdb<'a>(operands: &mut Operands<'_, 'a>) -> Result<Job<'a>, Refusal> {
+pub(crate) fn gdb<'a>(operands: &mut Operands<'_, 'a>) -> Job<'a> {
     let input = "The guest's input; it is empty where no file is named";
     let output = "Writes what the guest writes to a file instead of gdb's console";
     let streams = Debugged {
-        input: operands.optional(Text::long("input", "F", input))?,
-        output: operands.optional(Text::long("output", "F", output))?,
+        input: operands.optional(Text::long("input", "F", input)),
+        output: operands.optional(Text::long("output", "F", output)),
     };
-    let limit = limit(operands)?;
-    let (file, others) = operands.first_and_others(debugged_files())?;
-    let asked = Asked {
-        file,
-        others,
-        map: None,
-        map_first: false,
-        limit,
-        until: None,
-        parts_errors: false,
-        explains: false,
-    };
+    let limit = limit(operands);
+    let files = Texts::alone("FILE", "An executable, or sources that are built together");
+    let (file, others) = operands.first_and_others(files);
+    let asked = plain(file, others, limit);
     if asked.has_input() {
-        return Err(Refusal::Wanted("standard input is gdb's: name a file"));
+        operands.refuse("standard input is gdb's: name a file");
     }
-    Ok(Job::Debug(asked, streams))
-}
-
-/// What is debugged.
-fn debugged_files() -> Texts {
-    Texts::alone("FILE", "An executable, or sources that are built together")
+    Job::Debug(asked, streams)
 }
 
 /// What a number of `trace` has to be.
 const COUNT: &str = "a count is a decimal number below 2^64";
 
 /// The most instructions that are executed.
-pub(crate) fn limit(operands: &mut Operands<'_, '_>) -> Result<u64, Refusal> {
+pub(crate) fn limit(operands: &mut Operands<'_, '_>) -> u64 {
     let help = "The most instructions to execute, as 500k or 10M [default: RV_LIMIT, else 1000G]";
-    match operands.optional(Text::long("limit", "N", help))? {
-        Some(text) => number(
-            amount(text),
-            "a limit is a decimal number below 2^64, also as 500k, 10M or 1G",
-        ),
-        None => default_limit(operands.alloc, operands.limit),
+    let wanted = "a limit is a decimal number below 2^64, also as 500k, 10M or 1G";
+    match operands.optional(Text::long("limit", "N", help)) {
+        Some(text) => number(operands, amount(text), wanted),
+        None => default_limit(operands),
     }
 }
 
 /// The most instructions where the words say nothing: what the environment says, where it says something.
-fn default_limit(alloc: Global, given: Option<&str>) -> Result<u64, Refusal> {
-    let Some(text) = given else {
-        return Ok(LIMIT);
+fn default_limit(operands: &mut Operands<'_, '_>) -> u64 {
+    let Some(text) = operands.limit else {
+        return LIMIT;
     };
-    match amount(text) {
-        Some(limit) => Ok(limit),
-        None => Err(Refusal::Wrong(format!(in alloc;
-            "the environment's RV_LIMIT is '{text}', which is no limit as 5000, 500k, 10M or 1G"
-        )?)),
+    let limit = amount(text);
+    if limit.is_none() {
+        let behind = "', which is no limit as 5000, 500k, 10M or 1G";
+        operands.refuse_word("the environment's RV_LIMIT is '", text, behind);
     }
+    limit.unwrap_or(LIMIT)
 }
 
 fn map() -> Text {
@@ -269,9 +281,9 @@ fn files() -> Texts {
 }
 
 /// The program that `trace` or `stats` names, and how far it runs.
-fn looked_at<'a>(operands: &mut Operands<'_, 'a>) -> Result<Asked<'a>, Refusal> {
-    let map = operands.optional(map())?;
-    let limit = limit(operands)?;
+fn looked_at<'a>(operands: &mut Operands<'_, 'a>) -> Asked<'a> {
+    let map = operands.optional(map());
+    let limit = limit(operands);
     asked(operands, map, limit, false)
 }
 
@@ -281,12 +293,12 @@ fn asked<'a>(
     given: Option<&'a str>,
     limit: u64,
     explains: bool,
-) -> Result<Asked<'a>, Refusal> {
-    let until = until(operands)?;
+) -> Asked<'a> {
+    let until = until(operands);
     let apart = "Writes what the guest writes to descriptor 2 to standard error";
-    let parts_errors = operands.flag(Flag::long("stderr", apart))?;
-    let (file, others) = operands.first_and_others(files())?;
-    Ok(Asked {
+    let parts_errors = operands.flag(Flag::long("stderr", apart));
+    let (file, others) = operands.first_and_others(files());
+    Asked {
         file,
         others,
         map: given,
@@ -295,18 +307,16 @@ fn asked<'a>(
         until,
         parts_errors,
         explains,
-    })
+    }
 }
 
 /// Where the run is to end.
-fn until<'a>(operands: &mut Operands<'_, 'a>) -> Result<Option<Until<'a>>, Refusal> {
+fn until<'a>(operands: &mut Operands<'_, 'a>) -> Option<Until<'a>> {
     let help = "Ends the run before the instruction of a symbol, or of an address as 0x10008";
-    let Some(text) = operands.optional(Text::long("until", "SYMBOL", help))? else {
-        return Ok(None);
-    };
+    let text = operands.optional(Text::long("until", "SYMBOL", help))?;
     if !text.starts_with("0x") {
-        return Ok(Some(Until::Symbol(text)));
+        return Some(Until::Symbol(text));
     }
     let wanted = "an address is 0x and hexadecimal, below 2^64";
-    Ok(Some(Until::Address(number(text_start(text), wanted)?)))
+    Some(Until::Address(number(operands, text_start(text), wanted)))
 }

@@ -1,40 +1,31 @@
 //! What shells complete the words by: a script for each shell, made from the table.
 
-use crate::operands::{Entry, Form};
+use crate::operands::{Entry, Name, Uses};
 use crate::words::{Help, WORDS};
 use rv_job::Shell;
 use std::alloc::{AllocError, Global};
 
-/// The script by which a shell completes the words of the program.
-pub fn completions(alloc: Global, shell: Shell) -> Result<String, AllocError> {
-    let mut text = String::new(alloc);
-    match shell {
-        Shell::Bash => put_bash(alloc, &mut text)?,
-        Shell::Zsh => put_zsh(alloc, &mut text)?,
-        Shell::Fish => put_fish(alloc, &mut text)?,
-    }
-    Ok(text)
+/// What stands in a script round the names of all words, behind what it has of each word, and in that round the word's name
+/// and behind its operands.
+struct Script {
+    start: &'static str,
+    middle: &'static str,
+    end: &'static str,
+    word: [&'static str; 3],
 }
 
-/// Adds the function of bash: the word first, then options, and else files.
-fn put_bash(alloc: Global, text: &mut String) -> Result<(), AllocError> {
-    text.push_str(
-        "_rv() {
+/// A function of bash: the word first, then options, and else files.
+const BASH: Script = Script {
+    start: "_rv() {
     local word=${COMP_WORDS[COMP_CWORD]} options=
     if [ \"$COMP_CWORD\" -eq 1 ]; then
         COMPREPLY=($(compgen -W '",
-    )?;
-    put_names(text)?;
-    text.push_str(
-        "help --help --version' -- \"$word\"))
+    middle: "help --help --version' -- \"$word\"))
         return
     fi
     case ${COMP_WORDS[1]} in
 ",
-    )?;
-    put_words(alloc, text, Shell::Bash)?;
-    text.push_str(
-        "    esac
+    end: "    esac
     case $word in
         -*) COMPREPLY=($(compgen -W \"$options --help\" -- \"$word\")) ;;
         *) COMPREPLY=($(compgen -f -- \"$word\")) ;;
@@ -42,20 +33,16 @@ fn put_bash(alloc: Global, text: &mut String) -> Result<(), AllocError> {
 }
 complete -o filenames -F _rv rv
 ",
-    )
-}
+    word: ["        ", ") options='", "' ;;\n"],
+};
 
-/// Adds the function of zsh.
-fn put_zsh(alloc: Global, text: &mut String) -> Result<(), AllocError> {
-    text.push_str(
-        "#compdef rv
+/// A function of zsh.
+const ZSH: Script = Script {
+    start: "#compdef rv
 _rv() {
     local -a names
     names=(help ",
-    )?;
-    put_names(text)?;
-    text.push_str(
-        ")
+    middle: ")
     if (( CURRENT == 2 )); then
         compadd -a names
         return
@@ -65,178 +52,179 @@ _rv() {
     (( CURRENT-- ))
     case $name in
 ",
-    )?;
-    put_words(alloc, text, Shell::Zsh)?;
-    text.push_str(
-        "    esac
+    end: "    esac
 }
 _rv \"$@\"
 ",
-    )
+    word: ["        ", ") _arguments", " ;;\n"],
+};
+
+/// Lines of fish, which names no word but in its own line.
+const FISH: Script = Script {
+    start: "",
+    middle: "",
+    end: "",
+    word: [
+        "complete -c rv -n __fish_use_subcommand -f -a ",
+        " -d '",
+        "",
+    ],
+};
+
+/// A text that grows until memory is refused.
+#[derive(Drop)]
+struct Growing {
+    text: String,
+    tried: Result<(), AllocError>,
 }
 
-/// Adds the lines of fish.
-fn put_fish(alloc: Global, text: &mut String) -> Result<(), AllocError> {
-    put_words(alloc, text, Shell::Fish)
-}
-
-/// Adds the names of all words, a blank behind each.
-fn put_names(text: &mut String) -> Result<(), AllocError> {
-    for word in &WORDS {
-        text.push_str(word.help().name)?;
-        text.push(' ')?;
+impl Growing {
+    fn put(&mut self, part: &str) {
+        if self.tried.is_ok() {
+            self.tried = self.text.push_str(part);
+        }
     }
+
+    fn put_letter(&mut self, letter: char) {
+        if self.tried.is_ok() {
+            self.tried = self.text.push(letter);
+        }
+    }
+}
+
+/// The script by which a shell completes the words of the program.
+pub fn completions(alloc: Global, shell: Shell) -> Result<String, AllocError> {
+    let mut out = Growing {
+        text: String::new(alloc),
+        tried: Ok(()),
+    };
+    let script = match shell {
+        Shell::Bash => &BASH,
+        Shell::Zsh => &ZSH,
+        Shell::Fish => &FISH,
+    };
+    let mut entries = Vec::new(alloc);
+    put_script(alloc, shell, script, &WORDS, &mut entries, &mut out)?;
+    let Growing { text, tried } = out;
+    tried?;
+    Ok(text)
+}
+
+/// Adds a script for words; `entries` is room for the operands of a word.
+fn put_script(
+    alloc: Global,
+    shell: Shell,
+    script: &Script,
+    words: &[Help],
+    entries: &mut Vec<Entry>,
+    out: &mut Growing,
+) -> Result<(), AllocError> {
+    out.put(script.start);
+    if shell != Shell::Fish {
+        put_names(out, words);
+    }
+    out.put(script.middle);
+    for help in words {
+        help.word.list(alloc, entries)?;
+        put_word(out, shell, script, help, entries.as_slice());
+    }
+    out.put(script.end);
     Ok(())
 }
 
-/// Adds what a shell has to know of each word.
-fn put_words(alloc: Global, text: &mut String, shell: Shell) -> Result<(), AllocError> {
-    for word in &WORDS {
-        put_word(text, shell, &word.help(), word.entries(alloc)?.as_slice())?;
+/// Adds the names of words, a blank behind each.
+fn put_names(out: &mut Growing, words: &[Help]) {
+    for help in words {
+        out.put(help.name);
+        out.put(" ");
     }
-    Ok(())
 }
 
 /// Adds what a shell has to know of a word.
-fn put_word(
-    text: &mut String,
-    shell: Shell,
-    help: &Help,
-    entries: &[Entry],
-) -> Result<(), AllocError> {
-    match shell {
-        Shell::Bash => {
-            put_all(text, &["        ", help.name, ") options='"])?;
-            put_entries(text, shell, help.name, entries)?;
-            text.push_str("' ;;\n")
-        }
-        Shell::Zsh => {
-            put_all(text, &["        ", help.name, ") _arguments"])?;
-            put_entries(text, shell, help.name, entries)?;
-            text.push_str(" ;;\n")
-        }
-        Shell::Fish => {
-            let start = "complete -c rv -n __fish_use_subcommand -f -a ";
-            put_all(text, &[start, help.name, " -d '"])?;
-            put_quoted(text, shell, help.about)?;
-            text.push_str("'\n")?;
-            put_entries(text, shell, help.name, entries)
-        }
+fn put_word(out: &mut Growing, shell: Shell, script: &Script, help: &Help, entries: &[Entry]) {
+    let [start, middle, end] = script.word;
+    out.put(start);
+    out.put(help.name);
+    out.put(middle);
+    if shell == Shell::Fish {
+        put_quoted(out, shell, help.about);
+        out.put("'\n");
     }
-}
-
-/// Adds the options and files of a word.
-fn put_entries(
-    text: &mut String,
-    shell: Shell,
-    name: &str,
-    entries: &[Entry],
-) -> Result<(), AllocError> {
     for entry in entries {
-        match shell {
-            Shell::Bash => put_bash_entry(text, entry)?,
-            Shell::Zsh => put_zsh_entry(text, entry)?,
-            Shell::Fish => put_fish_entry(text, name, entry)?,
-        }
+        put_entry(out, shell, help.name, entry);
     }
-    Ok(())
+    out.put(end);
 }
 
-/// Adds an option, a blank behind it; a file has no name.
-fn put_bash_entry(text: &mut String, entry: &Entry) -> Result<(), AllocError> {
-    if entry.is_file() {
-        return Ok(());
+/// Adds an option or a file of a word; only zsh knows files.
+fn put_entry(out: &mut Growing, shell: Shell, word: &str, entry: &Entry) {
+    match shell {
+        Shell::Zsh => put_zsh_entry(out, entry),
+        _ if entry.is_file() => {}
+        Shell::Bash => put_bash_option(out, entry),
+        Shell::Fish => put_fish_option(out, word, entry),
     }
-    put_option(text, entry.form)?;
-    text.push(' ')
+}
+
+/// Adds an option, a blank behind it.
+fn put_bash_option(out: &mut Growing, entry: &Entry) {
+    put_name(out, entry.name, "--", "-");
+    out.put(" ");
 }
 
 /// Adds an option with what it is, or what files there are.
-fn put_zsh_entry(text: &mut String, entry: &Entry) -> Result<(), AllocError> {
-    text.push_str(" '")?;
-    match entry.form {
-        Form::Single(value) => return put_all(text, &[":", value, ":_files'"]),
-        Form::Several(value) => return put_all(text, &["*:", value, ":_files'"]),
-        _ => put_option(text, entry.form)?,
-    }
-    text.push('[')?;
-    put_quoted(text, Shell::Zsh, entry.help)?;
-    text.push(']')?;
-    match entry.form {
-        Form::Flag(_) | Form::RepeatedFlag(_) | Form::Letter(_) => text.push('\''),
-        Form::Long(_, value) | Form::RepeatedLong(_, value) => {
-            put_all(text, &[":", value, ":_files'"])
-        }
-        Form::Short(_, value) | Form::Repeated(_, value) => {
-            put_all(text, &[":", value, ":_files'"])
-        }
-        Form::Single(_) | Form::Several(_) => Ok(()),
-    }
-}
-
-/// Adds the line of an option; a file has none.
-fn put_fish_entry(text: &mut String, name: &str, entry: &Entry) -> Result<(), AllocError> {
+fn put_zsh_entry(out: &mut Growing, entry: &Entry) {
+    out.put(" '");
     if entry.is_file() {
-        return Ok(());
+        out.put(if entry.uses == Uses::Several { "*" } else { "" });
+    } else {
+        put_name(out, entry.name, "--", "-");
+        out.put("[");
+        put_quoted(out, Shell::Zsh, entry.help);
+        out.put("]");
     }
-    put_all(
-        text,
-        &[
-            "complete -c rv -n '__fish_seen_subcommand_from ",
-            name,
-            "' ",
-        ],
-    )?;
-    match entry.form {
-        Form::Flag(long) | Form::RepeatedFlag(long) => put_all(text, &["-l ", long])?,
-        Form::Letter(letter) => {
-            text.push_str("-s ")?;
-            text.push(letter)?;
-        }
-        Form::Long(long, _) | Form::RepeatedLong(long, _) => put_all(text, &["-r -l ", long])?,
-        Form::Short(letter, _) | Form::Repeated(letter, _) => {
-            text.push_str("-r -s ")?;
-            text.push(letter)?;
-        }
-        Form::Single(_) | Form::Several(_) => {}
+    if entry.has_value() {
+        out.put(":");
+        out.put(entry.value);
+        out.put(":_files");
     }
-    text.push_str(" -d '")?;
-    put_quoted(text, Shell::Fish, entry.help)?;
-    text.push_str("'\n")
+    out.put("'");
 }
 
-/// Adds an option as it is written.
-fn put_option(text: &mut String, form: Form) -> Result<(), AllocError> {
-    match form {
-        Form::Flag(long) | Form::RepeatedFlag(long) => put_all(text, &["--", long]),
-        Form::Long(long, _) | Form::RepeatedLong(long, _) => put_all(text, &["--", long]),
-        Form::Letter(letter) | Form::Short(letter, _) | Form::Repeated(letter, _) => {
-            text.push('-')?;
-            text.push(letter)
-        }
-        Form::Single(_) | Form::Several(_) => Ok(()),
-    }
+/// Adds the line of an option of a word.
+fn put_fish_option(out: &mut Growing, word: &str, entry: &Entry) {
+    out.put("complete -c rv -n '__fish_seen_subcommand_from ");
+    out.put(word);
+    out.put(if entry.has_value() { "' -r " } else { "' " });
+    put_name(out, entry.name, "-l ", "-s ");
+    out.put(" -d '");
+    put_quoted(out, Shell::Fish, entry.help);
+    out.put("'\n");
 }
 
-/// Adds texts one after the other.
-fn put_all(text: &mut String, parts: &[&str]) -> Result<(), AllocError> {
-    for part in parts {
-        text.push_str(part)?;
+/// Adds an option as it is written, with what stands before a word and before a letter; a file has no name.
+fn put_name(out: &mut Growing, name: Name, long: &str, short: &str) {
+    match name {
+        Name::Long(word) => {
+            out.put(long);
+            out.put(word);
+        }
+        Name::Letter(letter) => {
+            out.put(short);
+            out.put_letter(letter);
+        }
+        Name::Alone => {}
     }
-    Ok(())
 }
 
 /// Adds a text as it stands between single quotes; zsh wants brackets and colons escaped as well.
-fn put_quoted(text: &mut String, shell: Shell, part: &str) -> Result<(), AllocError> {
+fn put_quoted(out: &mut Growing, shell: Shell, part: &str) {
     for letter in part.chars() {
         match letter {
-            '\'' => text.push_str("'\\''")?,
-            '[' | ']' | ':' if shell == Shell::Zsh => {
-                text.push('\\')?;
-                text.push(letter)?;
-            }
-            _ => text.push(letter)?,
+            '\'' => out.put("'\\'"),
+            '[' | ']' | ':' if shell == Shell::Zsh => out.put("\\"),
+            _ => {}
         }
+        out.put_letter(letter);
     }
-    Ok(())
 }

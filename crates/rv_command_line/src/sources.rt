@@ -2,12 +2,13 @@
 
 use crate::builds::{link_options, sources};
 use crate::files::json;
-use crate::operands::{Flag, Operands, Refusal, Text};
-use crate::words::Help;
+use crate::operands::{Flag, Operands, Text};
+use crate::words::{Help, Word};
 use rv_fault_texts::explanation;
 use rv_job::{Job, ReportFormat, Shell};
 
 pub(crate) const CHECK: Help = Help {
+    word: Word::Check,
     name: "check",
     about: "Says what is wrong with sources, and where, without writing anything",
     after_help: "Examples:
@@ -17,33 +18,37 @@ pub(crate) const CHECK: Help = Help {
 Status 0 where the sources can be built, and 1 where they have a fault.",
 };
 
-pub(crate) fn check<'a>(operands: &mut Operands<'_, 'a>) -> Result<Job<'a>, Refusal> {
+pub(crate) fn check<'a>(operands: &mut Operands<'_, 'a>) -> Job<'a> {
     let help = "gcc: lines as compilers write them, for editors; json: an object a line";
     let named = Text::long("format", "FORMAT", help);
-    let format = operands.optional(named)?;
-    let format = match operands.flag(json().against(named))? {
+    let name = operands.optional(named);
+    let format = match operands.flag(json().against(named)) {
         true => ReportFormat::Json,
-        false => report_format(format)?,
+        false => report_format(operands, name),
     };
-    let options = link_options(operands)?;
-    Ok(Job::Check {
-        options,
+    Job::Check {
+        options: link_options(operands),
         format,
-        sources: operands.all(sources())?,
-    })
-}
-
-/// The format of a report by its name.
-fn report_format(name: Option<&str>) -> Result<ReportFormat, Refusal> {
-    match name {
-        None => Ok(ReportFormat::Text),
-        Some("gcc") => Ok(ReportFormat::Gcc),
-        Some("json") => Ok(ReportFormat::Json),
-        Some(_) => Err(Refusal::Wanted("a format is gcc or json")),
+        sources: operands.all(sources()),
     }
 }
 
+/// The format of a report by its name.
+fn report_format(operands: &mut Operands<'_, '_>, name: Option<&str>) -> ReportFormat {
+    let Some(name) = name else {
+        return ReportFormat::Text;
+    };
+    if name == "gcc" {
+        return ReportFormat::Gcc;
+    }
+    if name != "json" {
+        operands.refuse("a format is gcc or json");
+    }
+    ReportFormat::Json
+}
+
 pub(crate) const LIST: Help = Help {
+    word: Word::List,
     name: "list",
     about: "Prints the lines of sources, each with its address and its bytes",
     after_help: "Examples:
@@ -53,16 +58,17 @@ pub(crate) const LIST: Help = Help {
 The columns are those of GNU's as -al; the addresses are those of the executable.",
 };
 
-pub(crate) fn list<'a>(operands: &mut Operands<'_, 'a>) -> Result<Job<'a>, Refusal> {
+pub(crate) fn list<'a>(operands: &mut Operands<'_, 'a>) -> Job<'a> {
     let help = "Shows all bytes of a line, and not the first rows alone";
-    Ok(Job::List {
-        all: operands.flag(Flag::long("all", help))?,
-        options: link_options(operands)?,
-        sources: operands.all(sources())?,
-    })
+    Job::List {
+        all: operands.flag(Flag::long("all", help)),
+        options: link_options(operands),
+        sources: operands.all(sources()),
+    }
 }
 
 pub(crate) const EXPLAIN: Help = Help {
+    word: Word::Explain,
     name: "explain",
     about: "Explains a code: its cause, an example and the cure",
     after_help: "Examples:
@@ -71,20 +77,21 @@ pub(crate) const EXPLAIN: Help = Help {
   rv explain",
 };
 
-pub(crate) fn explain<'a>(operands: &mut Operands<'_, 'a>) -> Result<Job<'a>, Refusal> {
+pub(crate) fn explain<'a>(operands: &mut Operands<'_, 'a>) -> Job<'a> {
     let help = "A code as E14, or the name of an end of a run; without it all are listed";
-    let Some(code) = operands.optional(Text::alone("CODE", help))? else {
-        return Ok(Job::Explain { entry: None });
+    let Some(code) = operands.optional(Text::alone("CODE", help)) else {
+        return Job::Explain { entry: None };
     };
-    match explanation(code) {
-        Some(entry) => Ok(Job::Explain { entry: Some(entry) }),
-        None => Err(Refusal::Wrong(format!(in operands.alloc;
-            "{code} is no code; 'rv explain' lists those that there are"
-        )?)),
+    let entry = explanation(code);
+    if entry.is_none() {
+        let behind = " is no code; 'rv explain' lists those that there are";
+        operands.refuse_word("", code, behind);
     }
+    Job::Explain { entry }
 }
 
 pub(crate) const COMPLETIONS: Help = Help {
+    word: Word::Completions,
     name: "completions",
     about: "Prints what a shell completes the words of rv by",
     after_help: "Examples:
@@ -93,12 +100,20 @@ pub(crate) const COMPLETIONS: Help = Help {
   rv completions fish > /usr/share/fish/vendor_completions.d/rv.fish",
 };
 
-pub(crate) fn completions<'a>(operands: &mut Operands<'_, 'a>) -> Result<Job<'a>, Refusal> {
-    let shell = match operands.required(Text::alone("SHELL", "bash, zsh or fish"))? {
-        "bash" => Shell::Bash,
-        "zsh" => Shell::Zsh,
-        "fish" => Shell::Fish,
-        _ => operands.refuse(Shell::Bash, "a shell is bash, zsh or fish")?,
-    };
-    Ok(Job::Completions { shell })
+/// The shells by their names.
+const SHELLS: [(&str, Shell); 3] = [
+    ("bash", Shell::Bash),
+    ("zsh", Shell::Zsh),
+    ("fish", Shell::Fish),
+];
+
+pub(crate) fn completions<'a>(operands: &mut Operands<'_, 'a>) -> Job<'a> {
+    let named = operands.required(Text::alone("SHELL", "bash, zsh or fish"));
+    for (name, shell) in SHELLS {
+        if name == named {
+            return Job::Completions { shell };
+        }
+    }
+    operands.refuse("a shell is bash, zsh or fish");
+    Job::Completions { shell: Shell::Bash }
 }

@@ -1,9 +1,9 @@
 //! The words of the command line: what each says of itself, and the job that it asks for.
 //!
-//! The command line, the help, the completions of shells and the jobs are all made by the functions of this table, so that none
-//! of them knows a word or an operand that another does not.
+//! The command line, the help, the completions of shells and the jobs are all made by this table and the functions of its
+//! words, so that none of them knows a word or an operand that another does not.
 
-use crate::operands::{Entry, Operands, Refusal};
+use crate::operands::{Entry, Operands};
 use crate::{builds, cases, files, runs, sources};
 use rv_job::Job;
 use std::alloc::{AllocError, Global};
@@ -34,9 +34,10 @@ pub(crate) enum Word {
     Completions,
 }
 
-/// What a word says of itself.
+/// A row of the table: a word, with what it says of itself.
 #[derive(Clone, Copy, Drop)]
 pub(crate) struct Help {
+    pub(crate) word: Word,
     pub(crate) name: &'static str,
     /// What it does, in a line.
     pub(crate) about: &'static str,
@@ -45,70 +46,43 @@ pub(crate) struct Help {
 }
 
 /// All words, in the order of the help.
-pub(crate) const WORDS: [Word; 21] = [
-    Word::Run,
-    Word::Trace,
-    Word::Stats,
-    Word::Gdb,
-    Word::Test,
-    Word::Batch,
-    Word::Build,
-    Word::Assemble,
-    Word::Link,
-    Word::Map,
-    Word::Objdump,
-    Word::Code,
-    Word::List,
-    Word::Dump,
-    Word::Size,
-    Word::Names,
-    Word::Elf,
-    Word::Image,
-    Word::Check,
-    Word::Explain,
-    Word::Completions,
+pub(crate) const WORDS: [Help; 21] = [
+    runs::RUN,
+    runs::TRACE,
+    runs::STATS,
+    runs::GDB,
+    cases::TEST,
+    cases::BATCH,
+    builds::BUILD,
+    builds::ASSEMBLE,
+    builds::LINK,
+    builds::MAP,
+    files::OBJDUMP,
+    files::CODE,
+    sources::LIST,
+    files::DUMP,
+    files::SIZE,
+    files::NAMES,
+    files::ELF,
+    files::IMAGE,
+    sources::CHECK,
+    sources::EXPLAIN,
+    sources::COMPLETIONS,
 ];
 
+/// The row of a name.
+pub(crate) fn help_of(name: &str) -> Option<&'static Help> {
+    for help in &WORDS {
+        if help.name == name {
+            return Some(help);
+        }
+    }
+    None
+}
+
 impl Word {
-    /// The word of a name.
-    pub(crate) fn of(name: &str) -> Option<Word> {
-        for word in &WORDS {
-            if word.help().name == name {
-                return Some(*word);
-            }
-        }
-        None
-    }
-
-    /// What it says of itself.
-    pub(crate) fn help(self) -> Help {
-        match self {
-            Word::Run => runs::RUN,
-            Word::Trace => runs::TRACE,
-            Word::Stats => runs::STATS,
-            Word::Gdb => runs::GDB,
-            Word::Test => cases::TEST,
-            Word::Batch => cases::BATCH,
-            Word::Build => builds::BUILD,
-            Word::Assemble => builds::ASSEMBLE,
-            Word::Link => builds::LINK,
-            Word::Map => builds::MAP,
-            Word::Objdump => files::OBJDUMP,
-            Word::Code => files::CODE,
-            Word::List => sources::LIST,
-            Word::Dump => files::DUMP,
-            Word::Size => files::SIZE,
-            Word::Names => files::NAMES,
-            Word::Elf => files::ELF,
-            Word::Image => files::IMAGE,
-            Word::Check => sources::CHECK,
-            Word::Explain => sources::EXPLAIN,
-            Word::Completions => sources::COMPLETIONS,
-        }
-    }
-
-    /// The job that it asks for with its operands.
-    pub(crate) fn job<'a>(self, operands: &mut Operands<'_, 'a>) -> Result<Job<'a>, Refusal> {
+    /// The job that it asks for with its operands, unless it refuses one.
+    pub(crate) fn job<'a>(self, operands: &mut Operands<'_, 'a>) -> Job<'a> {
         match self {
             Word::Run => runs::run(operands),
             Word::Trace => runs::trace(operands),
@@ -134,13 +108,11 @@ impl Word {
         }
     }
 
-    /// The operands that it takes, in the order of its help.
-    pub(crate) fn entries(self, alloc: Global) -> Result<Vec<Entry>, AllocError> {
-        let mut operands = Operands::to_list(alloc);
-        match self.job(&mut operands) {
-            Err(Refusal::Memory) => Err(AllocError),
-            // nothing was given, so nothing is wrong
-            _ => Ok(operands.listed()),
-        }
+    /// Lists the operands that it takes, in the order of its help.
+    pub(crate) fn list(self, alloc: Global, entries: &mut Vec<Entry>) -> Result<(), AllocError> {
+        entries.clear();
+        let mut operands = Operands::new(alloc, None, None, entries);
+        let job = self.job(&mut operands);
+        operands.end_of_list(job)
     }
 }

@@ -34,7 +34,7 @@ use crate::widths::{bytes_of, width};
 use rv_expression::{SourceCode, SourceFault};
 use rv_instruction::{Coded, Encoded, code as code_of, one_code};
 use rv_object_types::put_no_operations;
-use rv_statement::{Statement, Statements};
+use rv_statement::Statement;
 use rv_unit::{LONGEST_SECTION, Scope, SectionOffset, Unit};
 use std::alloc::{AllocError, Global};
 
@@ -405,11 +405,13 @@ impl Coder {
     }
 }
 
-/// The code of each section of a unit, and how much of it each statement has, by the sizes of the statements.
-pub(crate) fn code(
+/// The code of each section of a unit, and how much of it each statement has, by the sizes of the statements, which are
+/// read into the room.
+pub(crate) fn code<'a>(
     alloc: Global,
-    unit: &Unit<'_>,
+    unit: &Unit<'a>,
     layout: &Layout,
+    room: &mut Statement<'a>,
 ) -> Result<SectionCode, SourceFault>
     requires count { length (layout.now).sizes.items ≡ length (said unit.now) }
     requires sizes { AreSizes (tables (said unit.now))
@@ -430,7 +432,6 @@ pub(crate) fn code(
     let mut scope = Scope::new(unit);
     let places = unit.places();
     let extents = unit.sections();
-    let mut room = Statements::room();
     for index in 0..statements.len() {
         let place = places[index];
         let extent = extent_at(extents, place.section);
@@ -438,7 +439,7 @@ pub(crate) fn code(
         let executable = extent.section.executable;
         let wanted = layout.size(index);
         coder.add(
-            statements.read(index, &mut room),
+            statements.read(index, room),
             &scope,
             place,
             executable,

@@ -6,7 +6,7 @@ ghost use Rattle.rv_source_laws.specs.Compressed as laws;
 ghost use Rattle.rv_draft.specs.Compressed.{is_code_kind, names_parcel_kind};
 
 use crate::extents::extent_at;
-use rv_statement::{Operation, Plain, StatementKind, Statements};
+use rv_statement::{Operation, Plain, Statement, StatementKind};
 use rv_unit::Unit;
 
 /// Whether a statement is code: an instruction, or an alignment in a section of code.
@@ -48,16 +48,15 @@ fn is_compressed(compressed: bool, executable: bool, kind: &StatementKind<'_>) -
     (compressed || names_parcel(kind)) && is_code(executable, kind)
 }
 
-/// Whether a statement of the source is compressed code.
-pub(crate) fn has_compressed(unit: &Unit<'_>) -> bool
+/// Whether a statement of the source is compressed code; each is read into the room.
+pub(crate) fn has_compressed<'a>(unit: &Unit<'a>, room: &mut Statement<'a>) -> bool
     ensures { result ≡ laws.is_compressed (said unit.now ∷ []) }
 {
     let statements = unit.statements();
     let places = unit.places();
     let extents = unit.sections();
-    let mut room = Statements::room();
     for index in 0..statements.len() {
-        let statement = statements.read(index, &mut room);
+        let statement = statements.read(index, room);
         let place = places[index];
         let extent = extent_at(extents, place.section);
         let compressed = unit.options_at(index).rvc();

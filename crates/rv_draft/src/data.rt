@@ -30,7 +30,7 @@ use crate::field::OpenField;
 use crate::fields::{Choices, put_code};
 use rv_expression::{Expr, SourceFault, Symbol, Value, append_string};
 use rv_isa::Kind;
-use rv_statement::{Statement, StatementKind, Statements};
+use rv_statement::{Statement, StatementKind};
 use rv_statement_laws::Width;
 use rv_unit::{Item, Scope, Section, SectionOffset, Unit};
 use std::alloc::{AllocError, Global};
@@ -510,12 +510,13 @@ pub(crate) struct Filled<'a> {
     pub(crate) fields: Vec<OpenField<'a>>,
 }
 
-/// The sections of a unit with their data after their code, where the statements stand so.
+/// The sections of a unit with their data after their code, where the statements stand so. These are read into the room.
 pub(crate) fn data<'a>(
     alloc: Global,
     unit: &Unit<'a>,
     items: &[Item],
     code: Vec<Vec<u8>>,
+    room: &mut Statement<'a>,
 ) -> Result<Filled<'a>, AllocError>
     requires few { length (said unit.now) < 2 ^ 32 }
     requires count { length items.now ≡ length (said unit.now) }
@@ -532,14 +533,13 @@ pub(crate) fn data<'a>(
     let mut fields = Vec::new(alloc);
     let mut scope = Scope::new(unit);
     let statements = unit.statements();
-    let mut room = Statements::room();
     for index in 0..statements.len() {
         put_next(
             sections.as_mut_slice(),
             &mut fields,
             unit,
             index,
-            statements.read(index, &mut room),
+            statements.read(index, room),
             &scope,
             items,
         )?;

@@ -17,6 +17,7 @@ use crate::field::OpenField;
 use crate::items::items;
 use crate::layout::Layout;
 use rv_expression::SourceFault;
+use rv_statement::{Statement, Statements};
 use rv_unit::{Item, Unit};
 use std::alloc::Global;
 
@@ -46,19 +47,34 @@ impl<'a> Draft<'a> {
         ensures sound { IfOk result (λ _. code_fault (said unit.now) ≡ None) }
         ensures refuses { IfErr result (λ e. IsRefusedSource (said unit.now) e) }
     {
-        let layout = Layout::of(alloc, unit)?;
-        let code = code(alloc, unit, &layout)?;
+        let mut room = Statements::room();
+        Draft::read(alloc, unit, &mut room)
+    }
+
+    /// The same; in each pass the statements that a unit doesn't hold whole are made again in the room.
+    fn read(
+        alloc: Global,
+        unit: &Unit<'a>,
+        room: &mut Statement<'a>,
+    ) -> Result<Draft<'a>, SourceFault>
+        requires good { first_unit_fault (said unit.now) ≡ None }
+        ensures draft { IfOk result (λ d. IsDraft (said unit.now) d) }
+        ensures sound { IfOk result (λ _. code_fault (said unit.now) ≡ None) }
+        ensures refuses { IfErr result (λ e. IsRefusedSource (said unit.now) e) }
+    {
+        let layout = Layout::read(alloc, unit, room)?;
+        let code = code(alloc, unit, &layout, room)?;
         // the layout makes room for the items
         drop(layout);
-        let (items, ends) = items(alloc, unit, code.sizes)?;
-        let filled = data(alloc, unit, items.as_slice(), code.sections)?;
+        let (items, ends) = items(alloc, unit, code.sizes, room)?;
+        let filled = data(alloc, unit, items.as_slice(), code.sections, room)?;
         let Filled { sections, fields } = filled;
         Ok(Draft {
             items,
             sections,
             ends,
             fields,
-            rvc: has_compressed(unit),
+            rvc: has_compressed(unit, room),
         })
     }
 }

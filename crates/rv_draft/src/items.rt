@@ -24,7 +24,7 @@ use crate::extents::extent_at;
 use crate::item::CodeSize;
 use rv_expression::{SourceCode, SourceFault, Value};
 use rv_instruction::constant;
-use rv_statement::{Statement, StatementKind, Statements};
+use rv_statement::{Statement, StatementKind};
 use rv_statement_laws::Width;
 use rv_unit::{
     Extent, Item, LONGEST_SECTION, Scope, Section, SectionOffset, Unit, byte_alignment, give_back,
@@ -333,11 +333,12 @@ fn take_size(sizes: &mut Vec<CodeSize>) -> CodeSize
 
 /// The items of a source's statements, whose code has these sizes, and the bytes of each section
 /// after the last of them. The sizes go as their items come: reversed first, since a vector gives
-/// memory back at its end.
-pub(crate) fn items(
+/// memory back at its end. Statements are read into the room.
+pub(crate) fn items<'a>(
     alloc: Global,
-    unit: &Unit<'_>,
+    unit: &Unit<'a>,
     mut sizes: Vec<CodeSize>,
+    room: &mut Statement<'a>,
 ) -> Result<(Vec<Item>, Vec<u32>), SourceFault>
     requires sizes { length sizes.items ≡ length (said unit.now) }
     ensures count { IfOk result (λ r. length r.0.items ≡ length (said unit.now)) }
@@ -360,13 +361,12 @@ pub(crate) fn items(
     let mut ends = no_bytes(alloc, extents.len())?;
     let mut items = Vec::with_capacity(alloc, statements.len())?;
     sizes.reverse();
-    let mut room = Statements::room();
     for index in 0..statements.len() {
         let place = places[index];
         let extent = extent_at(extents, place.section);
         let offset = end(ends.as_slice(), place.section);
         let code = take_size(&mut sizes);
-        let statement = statements.read(index, &mut room);
+        let statement = statements.read(index, room);
         let item = next_item(&scope, statement, place, &extent, offset, code)?;
         grow(&mut ends, item);
         items.push(item)?;

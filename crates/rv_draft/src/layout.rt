@@ -10,6 +10,7 @@ ghost use Rattle.rv_draft.specs.Measure.{AreSizes};
 
 use crate::measure::measured;
 use rv_sizes::Family;
+use rv_statement::{Statement, Statements};
 use rv_unit::Unit;
 use std::alloc::{AllocError, Global};
 
@@ -40,7 +41,29 @@ impl Layout {
             ≤ 2 * branches (items_of (tables (said unit.now)) located located found.sizes.items)
             + 1) }
     {
-        let items = measured(alloc, unit)?;
+        let mut room = Statements::room();
+        Layout::read(alloc, unit, &mut room)
+    }
+
+    /// The same, where each statement is read into the room.
+    pub(crate) fn read<'a>(
+        alloc: Global,
+        unit: &Unit<'a>,
+        room: &mut Statement<'a>,
+    ) -> Result<Layout, AllocError>
+        ensures count { IfOk result
+            (λ found. length found.sizes.items ≡ length (said unit.now)) }
+        ensures least { IfOk result (λ found. AreLeast (tables (said unit.now))
+            (located_from 1 1 (at_start (said unit.now)) (said unit.now)) found.sizes.items) }
+        ensures sizes { IfOk result (λ found. AreSizes (tables (said unit.now))
+            (located_from 1 1 (at_start (said unit.now)) (said unit.now)) found.sizes.items) }
+        ensures rounds { IfOk result (λ found.
+            let located = located_from 1 1 (at_start (said unit.now)) (said unit.now) in
+            found.rounds
+            ≤ 2 * branches (items_of (tables (said unit.now)) located located found.sizes.items)
+            + 1) }
+    {
+        let items = measured(alloc, unit, room)?;
         let found = Family::least(alloc, &items, unit.sections().len())?;
         Ok(Layout {
             sizes: found.sizes,

@@ -18,7 +18,7 @@ use crate::widths::{bytes_of, width};
 use rv_instruction::{code as code_of, item, near_forms, one_code};
 use rv_size_laws::Item;
 use rv_sizes::Items;
-use rv_statement::{Operation, Plain, Statement, StatementKind, Statements};
+use rv_statement::{Operation, Plain, Statement, StatementKind};
 use rv_unit::{Scope, SectionOffset, Unit};
 use std::alloc::{AllocError, Global};
 
@@ -238,8 +238,12 @@ fn seen<'a>(
     )
 }
 
-/// What sizes see of a source.
-pub(crate) fn measured(alloc: Global, unit: &Unit<'_>) -> Result<Items, AllocError>
+/// What sizes see of a source, whose statements are read into the room.
+pub(crate) fn measured<'a>(
+    alloc: Global,
+    unit: &Unit<'a>,
+    room: &mut Statement<'a>,
+) -> Result<Items, AllocError>
     ensures { IfOk result (λ items. IsMeasured (said unit.now) items) }
 {
     let mut scope = Scope::new(unit);
@@ -247,13 +251,12 @@ pub(crate) fn measured(alloc: Global, unit: &Unit<'_>) -> Result<Items, AllocErr
     let places = unit.places();
     let extents = unit.sections();
     let mut items = Items::with_capacity(alloc, statements.len())?;
-    let mut room = Statements::room();
     for index in 0..statements.len() {
         let place = places[index];
         let extent = extent_at(extents, place.section);
         let compressed = unit.options_at(index).rvc();
         let executable = extent.section.executable;
-        let statement = statements.read(index, &mut room);
+        let statement = statements.read(index, room);
         items.push(seen(statement, &scope, places, place, executable, compressed))?;
         scope.pass();
     }

@@ -1,7 +1,8 @@
 //! What sources come to that have no fault: the sizes of the program's regions, and warnings.
 
-use crate::excerpt::put_bytes;
 use crate::names::is_linker_symbol;
+use crate::parts::Part::{Shown, Words};
+use crate::parts::put_parts;
 use crate::remark::Remark;
 use crate::tokens::{LineToken, all_tokens, is_line_feed, part, place, text_of};
 use crate::warnings::{Doubt, Warning, warnings_of};
@@ -135,8 +136,11 @@ fn put_doubt(
     let token: LineToken = warning.token;
     match warning.doubt {
         Doubt::UnusedLabel => {
-            text.push_str("nothing in this source refers to ")?;
-            put_bytes(text, text_of(source, &token))
+            let name = text_of(source, &token);
+            put_parts(
+                text,
+                &[Words("nothing in this source refers to "), Shown(name)],
+            )
         }
         Doubt::Unreachable => text.push_str(
             "nothing leads here: the line before jumps away, and there is no label",
@@ -146,9 +150,15 @@ fn put_doubt(
         ),
         Doubt::AtZero => text.push_str("no program has data near address 0, so the run ends here"),
         Doubt::HidesSymbol => {
-            text.push_str("this is the address of ")?;
-            put_bytes(text, symbol_at(symbols, token.value))?;
-            text.push_str(" today: la follows it when it moves")
+            let name = symbol_at(symbols, token.value);
+            put_parts(
+                text,
+                &[
+                    Words("this is the address of "),
+                    Shown(name),
+                    Words(" today: la follows it when it moves"),
+                ],
+            )
         }
     }
 }

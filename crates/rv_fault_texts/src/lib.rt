@@ -31,6 +31,7 @@ mod other_extensions;
 mod other_files;
 mod other_words;
 mod parcel_numbers;
+mod parts;
 mod place;
 mod ranks;
 mod references;

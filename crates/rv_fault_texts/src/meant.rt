@@ -1,10 +1,11 @@
 //! What may be meant by a word that is wrong, as the end of a sentence.
 
-use crate::excerpt::put_bytes;
 use crate::forms::{form_of, takes_registers};
 use crate::names::{is_load_of_number, is_register};
 use crate::near_words::{Wanted, near_word};
 use crate::other_words::{directive_instead, instruction_instead};
+use crate::parts::Part::{Shown, Words};
+use crate::parts::put_parts;
 use std::alloc::{AllocError, Global};
 
 /// Adds the form of an instruction's operands.
@@ -12,10 +13,15 @@ pub(crate) fn put_form(text: &mut String, mnemonic: &[u8]) -> Result<(), AllocEr
     let Some(form) = form_of(mnemonic) else {
         return Ok(());
     };
-    text.push_str("; the form is ")?;
-    put_bytes(text, mnemonic)?;
-    text.push_str(" ")?;
-    text.push_str(form)
+    put_parts(
+        text,
+        &[
+            Words("; the form is "),
+            Shown(mnemonic),
+            Words(" "),
+            Words(form),
+        ],
+    )
 }
 
 /// Adds what may be meant by a word that is the name of no instruction, with this word behind it.
@@ -26,17 +32,21 @@ pub(crate) fn put_meant_instruction(
     behind: &[u8],
 ) -> Result<(), AllocError> {
     if let Some(words) = instruction_instead(word) {
-        text.push_str(": ")?;
-        return text.push_str(words);
+        return put_parts(text, &[Words(": "), Words(words)]);
     }
     if let Some(near) = near_word(alloc, word, Wanted::Instruction)? {
         return put_near(text, word, near.as_slice());
     }
     // a label without its colon stands alone, or before an instruction
     if behind.is_empty() || form_of(behind).is_some() {
-        text.push_str(": a label ends with a colon, ")?;
-        put_bytes(text, word)?;
-        return text.push_str(":");
+        return put_parts(
+            text,
+            &[
+                Words(": a label ends with a colon, "),
+                Shown(word),
+                Words(":"),
+            ],
+        );
     }
     Ok(())
 }
@@ -48,8 +58,7 @@ pub(crate) fn put_meant_directive(
     word: &[u8],
 ) -> Result<(), AllocError> {
     if let Some(words) = directive_instead(word) {
-        text.push_str(": ")?;
-        return text.push_str(words);
+        return put_parts(text, &[Words(": "), Words(words)]);
     }
     match near_word(alloc, word, Wanted::Directive)? {
         Some(near) => put_near(text, word, near.as_slice()),
@@ -59,12 +68,12 @@ pub(crate) fn put_meant_directive(
 
 /// Adds a word that is spelt almost as another.
 fn put_near(text: &mut String, word: &[u8], near: &[u8]) -> Result<(), AllocError> {
-    text.push_str(": ")?;
-    put_bytes(text, near)?;
-    if word.eq_ignore_ascii_case(near) {
-        return text.push_str(" has small letters");
-    }
-    text.push_str(" is spelt almost so")
+    let words = if word.eq_ignore_ascii_case(near) {
+        " has small letters"
+    } else {
+        " is spelt almost so"
+    };
+    put_parts(text, &[Words(": "), Shown(near), Words(words)])
 }
 
 /// Adds the register that may be meant by a word that is none; whether there is one.
@@ -91,10 +100,8 @@ pub(crate) fn put_meant_register(
 }
 
 /// Adds what is meant, and what is said of it.
-fn put_told(text: &mut String, meant: &[u8], words: &str) -> Result<bool, AllocError> {
-    text.push_str(": ")?;
-    put_bytes(text, meant)?;
-    text.push_str(words)?;
+fn put_told<'a>(text: &mut String, meant: &'a [u8], words: &'a str) -> Result<bool, AllocError> {
+    put_parts(text, &[Words(": "), Shown(meant), Words(words)])?;
     Ok(true)
 }
 
@@ -114,19 +121,24 @@ fn family_of(word: &[u8]) -> Option<&'static str> {
 }
 
 /// Adds what may be meant by a name that is no number, in a statement of this mnemonic and first operand.
-pub(crate) fn put_meant_number(
+pub(crate) fn put_meant_number<'a>(
     alloc: Global,
     text: &mut String,
     mnemonic: &[u8],
-    first: &[u8],
-    name: &[u8],
+    first: &'a [u8],
+    name: &'a [u8],
 ) -> Result<(), AllocError> {
     if is_load_of_number(mnemonic) {
-        text.push_str("; la ")?;
-        put_bytes(text, first)?;
-        text.push_str(", ")?;
-        put_bytes(text, name)?;
-        return text.push_str(" loads a label's address");
+        return put_parts(
+            text,
+            &[
+                Words("; la "),
+                Shown(first),
+                Words(", "),
+                Shown(name),
+                Words(" loads a label's address"),
+            ],
+        );
     }
     if takes_registers(mnemonic) {
         put_meant_register(alloc, text, name)?;

@@ -1,6 +1,5 @@
 //! What is said of a fault of a source: what stands there, and what may.
 
-use crate::excerpt::put_bytes;
 use crate::forms::form_of;
 use crate::meant::{
     put_form, put_meant_directive, put_meant_instruction, put_meant_number, put_meant_register,
@@ -10,6 +9,8 @@ use crate::other_extensions::{is_of_extension, words_of_unknown};
 use crate::other_files::words_of_file;
 use crate::other_words::left_out_instead;
 use crate::parcel_numbers::{numbers_of, parcel_named};
+use crate::parts::Part::{self, Shown, Words};
+use crate::parts::put_parts;
 use crate::place::{Expected, FaultPlace};
 use crate::tokens::part;
 use rv_fault::SourceCode;
@@ -98,12 +99,11 @@ fn put_cut_short(
     text: &mut String,
     subject: &Subject<'_>,
 ) -> Result<(), AllocError> {
-    put_bytes(text, subject.mnemonic)?;
+    put_parts(text, &[Shown(subject.mnemonic), Words(" cannot end here")])?;
     let opened = count_of(subject.statement, b'(');
     if count_of(subject.statement, b')') < opened {
-        return text.push_str(" cannot end here: ) is missing");
+        return text.push_str(": ) is missing");
     }
-    text.push_str(" cannot end here")?;
     if subject.first.starts_with(b"$") && put_meant_register(alloc, text, subject.first)? {
         return Ok(());
     }
@@ -161,47 +161,78 @@ fn put_words(
         SourceCode::BadByte => put_bad_byte(text, subject.shown),
         SourceCode::BadOperands => put_bad_operand(alloc, text, known, subject),
         SourceCode::ImmediateRange => put_range(alloc, text, known, subject),
-        SourceCode::NotConstant => {
-            put_shown(text, known, subject, "a value here")?;
-            text.push_str(
-                " is no number that is known at this line, and a number has to stand here",
-            )?;
-            if known {
-                put_meant_number(alloc, text, subject.mnemonic, subject.first, subject.shown)?;
-            }
-            Ok(())
-        }
-        SourceCode::UnknownMnemonic => {
-            put_shown_and(text, subject, words_of_unknown(subject.shown))?;
-            if is_of_extension(subject.shown) {
-                return Ok(());
-            }
-            if subject.is_behind_semicolon {
-                return text.push_str(": behind ; a statement begins, and behind # a comment");
-            }
-            let behind = after(subject.statement, subject.shown);
-            put_meant_instruction(alloc, text, subject.shown, word(behind))
-        }
-        SourceCode::UnknownDirective => {
-            put_shown_and(text, subject, " is the name of no directive")?;
-            put_meant_directive(alloc, text, subject.shown)
-        }
+        SourceCode::NotConstant => put_not_constant(alloc, text, known, subject),
+        SourceCode::UnknownMnemonic => put_unknown_mnemonic(alloc, text, subject),
+        SourceCode::UnknownDirective => put_unknown_directive(alloc, text, subject.shown),
         SourceCode::UnsupportedHere => put_unsupported(alloc, text, subject),
         SourceCode::DuplicateLabel => put_duplicate(alloc, text, known, subject),
         SourceCode::UndefinedLocal => put_undefined_local(text, known, subject),
-        SourceCode::ScratchRegister => {
-            put_shown(text, known, subject, "x0, or a register that is stored,")?;
-            text.push_str(" cannot hold the address on the way to the symbol; another register can")
-        }
-        SourceCode::WrongSection => {
-            put_shown(text, known, subject, "a statement of this line")?;
-            text.push_str(
-                " cannot stand in this section: instructions go to .text, data to .data or .rodata",
-            )
-        }
+        SourceCode::ScratchRegister => put_parts(
+            text,
+            &[
+                shown_or(known, subject, "x0, or a register that is stored,"),
+                Words(" cannot hold the address on the way to the symbol; another register can"),
+            ],
+        ),
+        SourceCode::WrongSection => put_parts(
+            text,
+            &[
+                shown_or(known, subject, "a statement of this line"),
+                Words(
+                    " cannot stand in this section: instructions go to .text, data to .data or .rodata",
+                ),
+            ],
+        ),
         SourceCode::Limit if known => put_range(alloc, text, known, subject),
         _ => text.push_str(plain_words(code)),
     }
+}
+
+/// Adds what is said of a value that is no number at its line.
+fn put_not_constant(
+    alloc: Global,
+    text: &mut String,
+    known: bool,
+    subject: &Subject<'_>,
+) -> Result<(), AllocError> {
+    put_parts(
+        text,
+        &[
+            shown_or(known, subject, "a value here"),
+            Words(" is no number that is known at this line, and a number has to stand here"),
+        ],
+    )?;
+    if known {
+        return put_meant_number(alloc, text, subject.mnemonic, subject.first, subject.shown);
+    }
+    Ok(())
+}
+
+/// Adds what is said of a word that is the name of no instruction.
+fn put_unknown_mnemonic(
+    alloc: Global,
+    text: &mut String,
+    subject: &Subject<'_>,
+) -> Result<(), AllocError> {
+    let words = words_of_unknown(subject.shown);
+    put_parts(text, &[written(subject.shown), Words(words)])?;
+    if is_of_extension(subject.shown) {
+        return Ok(());
+    }
+    if subject.is_behind_semicolon {
+        return text.push_str(": behind ; a statement begins, and behind # a comment");
+    }
+    let behind = after(subject.statement, subject.shown);
+    put_meant_instruction(alloc, text, subject.shown, word(behind))
+}
+
+/// Adds what is said of a word that is the name of no directive.
+fn put_unknown_directive(alloc: Global, text: &mut String, name: &[u8]) -> Result<(), AllocError> {
+    put_parts(
+        text,
+        &[written(name), Words(" is the name of no directive")],
+    )?;
+    put_meant_directive(alloc, text, name)
 }
 
 /// Adds what is said of a name that is defined before, and where.
@@ -211,15 +242,14 @@ fn put_duplicate(
     known: bool,
     subject: &Subject<'_>,
 ) -> Result<(), AllocError> {
-    put_shown(text, known, subject, "a name here")?;
+    let name = shown_or(known, subject, "a name here");
+    let last = Words(", and a name has one definition");
     if subject.first_line == 0 {
-        text.push_str(" is defined before this line")?;
-    } else {
-        let line = subject.first_line;
-        let told = format!(in alloc; " is defined at line {line}")?;
-        text.push_str(told.as_str())?;
+        return put_parts(text, &[name, Words(" is defined before this line"), last]);
     }
-    text.push_str(", and a name has one definition")
+    let line = subject.first_line;
+    let told = format!(in alloc; " is defined at line {line}")?;
+    put_parts(text, &[name, Words(told.as_str()), last])
 }
 
 /// Adds what is said of a reference to a label that the source does not have.
@@ -228,16 +258,23 @@ fn put_undefined_local(
     known: bool,
     subject: &Subject<'_>,
 ) -> Result<(), AllocError> {
-    put_shown(text, known, subject, "what this refers to")?;
-    if known
+    let is_numeric = known
         && subject
             .shown
             .first()
-            .is_some_and(|byte| byte.is_ascii_digit())
-    {
-        return text.push_str(" has no label: digits with b want it before, with f after this line");
-    }
-    text.push_str(" is no label of this source")
+            .is_some_and(|byte| byte.is_ascii_digit());
+    let words = if is_numeric {
+        " has no label: digits with b want it before, with f after this line"
+    } else {
+        " is no label of this source"
+    };
+    put_parts(
+        text,
+        &[
+            shown_or(known, subject, "what this refers to"),
+            Words(words),
+        ],
+    )
 }
 
 /// What is said of a fault whatever stands there.
@@ -251,32 +288,22 @@ fn plain_words(code: SourceCode) -> &'static str {
     }
 }
 
-/// Adds what the carets show, or what stands for it where they show the statement.
-fn put_shown(
-    text: &mut String,
-    known: bool,
-    subject: &Subject<'_>,
-    otherwise: &str,
-) -> Result<(), AllocError> {
+/// What the carets show, or what stands for it where they show the statement.
+fn shown_or<'a>(known: bool, subject: &Subject<'a>, otherwise: &'a str) -> Part<'a> {
     if known {
-        put_token(text, subject.shown)
+        written(subject.shown)
     } else {
-        text.push_str(otherwise)
+        Words(otherwise)
     }
 }
 
-/// Adds a token as it is written; a comma in words.
-fn put_token(text: &mut String, token: &[u8]) -> Result<(), AllocError> {
+/// A token as it is written; a comma in words.
+fn written(token: &[u8]) -> Part<'_> {
     if token == b",".as_slice() {
-        return text.push_str("a comma");
+        Words("a comma")
+    } else {
+        Shown(token)
     }
-    put_bytes(text, token)
-}
-
-/// Adds what the carets show, and a text.
-fn put_shown_and(text: &mut String, subject: &Subject<'_>, after: &str) -> Result<(), AllocError> {
-    put_token(text, subject.shown)?;
-    text.push_str(after)
 }
 
 /// Adds what is said of a byte that no source has.
@@ -303,8 +330,7 @@ fn put_bad_token(text: &mut String, shown: &[u8]) -> Result<(), AllocError> {
         Some(b'/') => text.push_str("the comment that begins here has no end"),
         Some(b'[') => text.push_str("[ begins nothing here: an address is number(register)"),
         Some(digit) if digit.is_ascii_digit() => {
-            put_bytes(text, shown)?;
-            text.push_str(why_no_number(shown))
+            put_parts(text, &[Shown(shown), Words(why_no_number(shown))])
         }
         _ => text.push_str("no word or sign of the language begins so"),
     }
@@ -342,19 +368,26 @@ fn put_unsupported(
     if is_access(subject.mnemonic) && is_number(subject.shown) {
         return put_address(text, subject);
     }
-    if subject.shown != subject.mnemonic {
-        put_bytes(text, subject.mnemonic)?;
-        text.push_str(" with ")?;
+    put_left_out(text, subject, subject.shown == subject.mnemonic)
+}
+
+/// Adds that what the carets show is left out, which is the whole statement or an operand of it.
+fn put_left_out(
+    text: &mut String,
+    subject: &Subject<'_>,
+    is_whole: bool,
+) -> Result<(), AllocError> {
+    if !is_whole {
+        put_parts(text, &[Shown(subject.mnemonic), Words(" with ")])?;
     }
-    put_shown_and(text, subject, " is left out of this language")?;
+    let left_out = [
+        written(subject.shown),
+        Words(" is left out of this language"),
+    ];
+    put_parts(text, &left_out)?;
     match left_out_instead(subject.shown) {
-        Some(words) => {
-            text.push_str(": ")?;
-            text.push_str(words)
-        }
-        None if subject.shown == subject.mnemonic => text.push_str(
-            ", at least with these operands",
-        ),
+        Some(words) => put_parts(text, &[Words(": "), Words(words)]),
+        None if is_whole => text.push_str(", at least with these operands"),
         None => Ok(()),
     }
 }
@@ -367,34 +400,56 @@ fn put_bad_operand(
     subject: &Subject<'_>,
 ) -> Result<(), AllocError> {
     if subject.is_before {
-        return put_shown_and(text, subject, " cannot be a label: it is a register's name");
+        return put_parts(
+            text,
+            &[
+                written(subject.shown),
+                Words(" cannot be a label: it is a register's name"),
+            ],
+        );
     }
+    let what = shown_or(known, subject, "this");
     match subject.expected {
-        Expected::Comma => {
-            text.push_str("a comma is missing before ")?;
-            return put_shown(text, known, subject, "this");
-        }
+        Expected::Comma => put_parts(text, &[Words("a comma is missing before "), what]),
         Expected::Parenthesis => {
-            text.push_str("( is missing before ")?;
-            put_shown(text, known, subject, "this")?;
-            return put_form(text, subject.mnemonic);
+            put_parts(text, &[Words("( is missing before "), what])?;
+            put_form(text, subject.mnemonic)
         }
-        _ => {}
+        _ => put_not_taken(alloc, text, known, subject),
     }
-    put_bytes(text, subject.mnemonic)?;
-    text.push_str(" does not take ")?;
-    put_shown(text, known, subject, "these operands")?;
+}
+
+/// Adds that a statement does not take an operand, and what it takes.
+fn put_not_taken(
+    alloc: Global,
+    text: &mut String,
+    known: bool,
+    subject: &Subject<'_>,
+) -> Result<(), AllocError> {
+    put_parts(
+        text,
+        &[
+            Shown(subject.mnemonic),
+            Words(" does not take "),
+            shown_or(known, subject, "these operands"),
+        ],
+    )?;
     if !known {
         return put_form(text, subject.mnemonic);
     }
-    text.push_str(" here")?;
-    if subject.expected != Expected::Name || form_of(subject.mnemonic).is_none() {
-        text.push_str(expected_words(subject.expected))?;
-    }
+    text.push_str(wanted_words(subject))?;
     if is_for_register(subject.expected) && put_meant_register(alloc, text, subject.shown)? {
         return Ok(());
     }
     put_form(text, subject.mnemonic)
+}
+
+/// What may stand where a wrong operand does, but for a name, which the form shows.
+fn wanted_words(subject: &Subject<'_>) -> &'static str {
+    if subject.expected == Expected::Name && form_of(subject.mnemonic).is_some() {
+        return " here";
+    }
+    expected_words(subject.expected)
 }
 
 /// Whether a register may stand there.
@@ -408,17 +463,17 @@ fn is_for_register(expected: Expected) -> bool {
 /// What may stand where a wrong operand does.
 fn expected_words(expected: Expected) -> &'static str {
     match expected {
-        Expected::Unknown => "",
-        Expected::Register => ", but a register",
-        Expected::OtherRegister => ", but another register",
-        Expected::ShortRegister => ", but one of a0 to a5, s0, s1",
-        Expected::RegisterOrNumber => ", but a register or a number",
-        Expected::NumberOrName => ", but a number or a name",
-        Expected::Name => ", but a name",
-        Expected::Letters => ", but letters of iorw in this order",
-        Expected::Stack => ", but sp",
-        Expected::Comma => ", but a comma",
-        Expected::Parenthesis => ", but a parenthesis",
+        Expected::Unknown => " here",
+        Expected::Register => " here, but a register",
+        Expected::OtherRegister => " here, but another register",
+        Expected::ShortRegister => " here, but one of a0 to a5, s0, s1",
+        Expected::RegisterOrNumber => " here, but a register or a number",
+        Expected::NumberOrName => " here, but a number or a name",
+        Expected::Name => " here, but a name",
+        Expected::Letters => " here, but letters of iorw in this order",
+        Expected::Stack => " here, but sp",
+        Expected::Comma => " here, but a comma",
+        Expected::Parenthesis => " here, but a parenthesis",
     }
 }
 
@@ -436,37 +491,59 @@ fn put_range(
         let numbers = numbers_of(alloc, operation)?;
         return put_missed(text, known, subject, numbers.as_str());
     }
-    put_shown(text, known, subject, "a value here")?;
-    text.push_str(" is none that this statement takes: it is out of range, or a number as a target")
+    put_parts(
+        text,
+        &[
+            shown_or(known, subject, "a value here"),
+            Words(
+                " is none that this statement takes: it is out of range, or a number as a target",
+            ),
+        ],
+    )
 }
 
 /// Adds how a load or a store names an address that is a number.
 fn put_address(text: &mut String, subject: &Subject<'_>) -> Result<(), AllocError> {
-    put_bytes(text, subject.mnemonic)?;
-    text.push_str(" takes a name here, or a number before a register in parentheses")?;
+    put_parts(
+        text,
+        &[
+            Shown(subject.mnemonic),
+            Words(" takes a name here, or a number before a register in parentheses"),
+        ],
+    )?;
     if subject.shown.len() < SHORT_NUMBER {
-        text.push_str(": ")?;
-        put_bytes(text, subject.shown)?;
-        return text.push_str("(zero) is that address");
+        return put_parts(
+            text,
+            &[
+                Words(": "),
+                Shown(subject.shown),
+                Words("(zero) is that address"),
+            ],
+        );
     }
     text.push_str(": load the address into one by li")
 }
 
 /// Adds what is said of a number outside of this range.
-fn put_missed(
+fn put_missed<'a>(
     text: &mut String,
     known: bool,
-    subject: &Subject<'_>,
-    range: &str,
+    subject: &Subject<'a>,
+    range: &'a str,
 ) -> Result<(), AllocError> {
-    put_bytes(text, subject.mnemonic)?;
-    text.push_str(" takes ")?;
-    text.push_str(range)?;
-    text.push_str(" here, ")?;
-    put_shown(text, known, subject, "the value")?;
-    text.push_str(size_in_words(subject))?;
+    put_parts(
+        text,
+        &[
+            Shown(subject.mnemonic),
+            Words(" takes "),
+            Words(range),
+            Words(" here, "),
+            shown_or(known, subject, "the value"),
+            Words(size_in_words(subject)),
+        ],
+    )?;
     if known && subject.mnemonic == b"addi".as_slice() {
-        put_load(text, subject)?;
+        return put_load(text, subject);
     }
     Ok(())
 }
@@ -487,11 +564,16 @@ fn put_load(text: &mut String, subject: &Subject<'_>) -> Result<(), AllocError> 
     if !subject.is_number || LONGEST_CURE < subject.shown.len() {
         return text.push_str("; li loads it");
     }
-    text.push_str("; li ")?;
-    put_bytes(text, subject.first)?;
-    text.push_str(", ")?;
-    put_bytes(text, subject.shown)?;
-    text.push_str(" loads it")
+    put_parts(
+        text,
+        &[
+            Words("; li "),
+            Shown(subject.first),
+            Words(", "),
+            Shown(subject.shown),
+            Words(" loads it"),
+        ],
+    )
 }
 
 /// How a number misses its range, where it is written as one.

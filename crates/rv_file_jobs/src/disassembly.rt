@@ -5,10 +5,9 @@ use rv_fault::Fault;
 use rv_inspect::{CodeFile, Style};
 use rv_job::AskedCode;
 use rv_map::Map;
-use rv_paint::has_escape;
 use rv_system::{
-    JobError, System, check_fit, fault_line, file_bytes, image_in, map_in, print, print_listing,
-    print_parts,
+    JobError, System, check_fit, fault_line, file_bytes, has_escape, image_in, map_in, print,
+    print_listing, print_parts,
 };
 use std::alloc::Global;
 

@@ -10,7 +10,7 @@ use rv_fault::FileFault;
 use rv_json::{name, number_or_null};
 use rv_map::{Global as MapGlobal, Map};
 use rv_map_laws::Region;
-use serde_json::json;
+use serde_json::{Map as Members, Value, put};
 use std::alloc::{AllocError, Global};
 
 /// The lower half of `st_info`: the symbol stands for a section (gABI, STT_SECTION).
@@ -102,11 +102,15 @@ fn add_globals<'a>(names: &mut Vec<Named<'a>>, map: &'a Map) -> Result<(), Alloc
 
 /// The letter of a global name. Those that the linker makes at the ends of regions have that of their region.
 fn global_letter(map: &Map, global: &MapGlobal) -> u8 {
-    match global.name.as_slice() {
-        b"_etext" => b'T',
-        b"_edata" => b'D',
-        b"__bss_start" | b"_end" => b'B',
-        _ => region_letter(map, global.address),
+    let name = global.name.as_slice();
+    if name == b"_etext".as_slice() {
+        b'T'
+    } else if name == b"_edata".as_slice() {
+        b'D'
+    } else if name == b"__bss_start".as_slice() || name == b"_end".as_slice() {
+        b'B'
+    } else {
+        region_letter(map, global.address)
     }
 }
 
@@ -164,14 +168,23 @@ fn is_shown(symbol: &Symbol, name: &[u8]) -> bool {
     kind != STT_SECTION && kind != STT_FILE && !name.is_empty() && !is_own
 }
 
-/// Adds the object of a name: its letter, and its value or null.
+/// Adds the object of a name.
 fn put_object(text: &mut Vec<u8>, named: &Named<'_>) -> Result<(), AllocError> {
     let alloc = *text.allocator();
-    let shown = name(alloc, named.name)?;
-    let letter = name(alloc, &[named.letter])?;
-    let value = number_or_null(alloc, named.value)?;
-    let object = json!(in alloc; { "name": shown, "letter": letter, "value": value })?;
-    rv_json::put_line(alloc, text, &object)
+    let mut object = Members::new(alloc);
+    put_members(alloc, &mut object, named)?;
+    rv_json::put_line(alloc, text, &Value::Object(object))
+}
+
+/// Adds a name, its letter, and its value or null.
+fn put_members(
+    alloc: Global,
+    object: &mut Members<String, Value>,
+    named: &Named<'_>,
+) -> Result<(), AllocError> {
+    put(object, alloc, "name", name(alloc, named.name)?)?;
+    put(object, alloc, "letter", name(alloc, &[named.letter])?)?;
+    put(object, alloc, "value", number_or_null(alloc, named.value)?)
 }
 
 /// Adds the line of a name.

@@ -7,7 +7,7 @@ use rv_elf::{ElfView, PF_W, PT_LOAD, SHF_ALLOC, SHF_EXECINSTR, SHF_WRITE, SHT_NO
 use rv_elf_laws::{ProgramHeader, SectionHeader};
 use rv_fault::FileFault;
 use rv_json::number;
-use serde_json::json;
+use serde_json::{Map, Value, put};
 use std::alloc::{AllocError, Global};
 
 /// The bytes that a file has in memory, by what they are.
@@ -174,16 +174,22 @@ impl SizeTable {
 /// Adds the object of a file.
 fn put_object(text: &mut Vec<u8>, size: &Size, name: &str) -> Result<(), AllocError> {
     let alloc = *text.allocator();
-    let code = number(alloc, size.text)?;
-    let variables = number(alloc, size.data)?;
-    let zeros = number(alloc, size.bss)?;
-    let object = json!(in alloc; {
-        "file": name,
-        "text": code,
-        "data": variables,
-        "bss": zeros
-    })?;
-    rv_json::put_line(alloc, text, &object)
+    let mut object = Map::new(alloc);
+    put_members(alloc, &mut object, size, name)?;
+    rv_json::put_line(alloc, text, &Value::Object(object))
+}
+
+/// Adds the name of a file and its sizes.
+fn put_members(
+    alloc: Global,
+    object: &mut Map<String, Value>,
+    size: &Size,
+    name: &str,
+) -> Result<(), AllocError> {
+    put(object, alloc, "file", Value::try_from_str(alloc, name)?)?;
+    put(object, alloc, "text", number(alloc, size.text)?)?;
+    put(object, alloc, "data", number(alloc, size.data)?)?;
+    put(object, alloc, "bss", number(alloc, size.bss)?)
 }
 
 /// Adds a line.

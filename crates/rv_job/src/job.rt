@@ -11,6 +11,8 @@ use rv_link::GroundOptions;
 pub enum Job<'a> {
     /// Runs an executable, or sources.
     Run(Asked<'a>),
+    /// Runs an executable, or sources, on the board `virt`.
+    RunOnBoard(Asked<'a>),
     /// Runs step by step, and tells of the end what is asked.
     Watch(Asked<'a>, Results<'a>),
     /// Runs, and writes a line for each instruction.

@@ -24,5 +24,5 @@ pub use links::{
     AskedBuild, AskedLink, AskedMap, AskedObject, LinkInput, LinkOutputs, LinkSettings, LinkWord,
     LinkWords,
 };
-pub use options::{TEXT_START, default_options};
+pub use options::{TEXT_START, board_options, default_options};
 pub use runs::{Asked, Coverage, Debugged, LineForm, Results, Shown, Until};

@@ -27,6 +27,8 @@ pub struct LinkOutputs<'a> {
 pub struct AskedBuild<'a> {
     pub outputs: LinkOutputs<'a>,
     pub settings: LinkSettings,
+    /// The names that the words define, as `NAME=N`.
+    pub definitions: Vec<&'a str>,
     pub sources: Vec<&'a str>,
     /// The archives behind the sources.
     pub libraries: LinkWords<'a>,
@@ -37,6 +39,8 @@ pub struct AskedBuild<'a> {
 pub struct AskedLink<'a> {
     pub outputs: LinkOutputs<'a>,
     pub settings: LinkSettings,
+    /// The names that the words define, as `NAME=N`.
+    pub definitions: Vec<&'a str>,
     pub files: LinkWords<'a>,
 }
 
@@ -44,6 +48,8 @@ pub struct AskedLink<'a> {
 #[derive(Drop)]
 pub struct AskedMap<'a> {
     pub settings: LinkSettings,
+    /// The names that the words define, as `NAME=N`.
+    pub definitions: Vec<&'a str>,
     pub sources: Vec<&'a str>,
 }
 

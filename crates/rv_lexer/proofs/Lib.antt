@@ -6,7 +6,7 @@ pub mod EscapesLemmas
 pub mod ScansLemmas
 -- The inside of a string: what its atoms are, up to the quote.
 pub mod InsideLemmas
--- The bytes of a string that stand as they are, before its first escape.
+-- The bytes of a string that stand as they are, up to its next escape.
 pub mod PlainBytesLemmas
 -- The steps of the lexer: a blank or a comment, a token, and the last token.
 pub mod StepsLemmas

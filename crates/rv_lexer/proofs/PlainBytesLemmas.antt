@@ -1,9 +1,9 @@
--- The bytes of a string that stand as they are, before its first escape.
+-- The bytes of a string that stand as they are, up to its next escape.
 
-use Rattle.std.proofs.Common.{◌≡◌, ℕ, ◌+◌, ◌<◌, ◌≤◌, Bool, true, false, not, cond, List, [], ◌∷◌, ◌++◌, length, length-append, get_or, take, drop, map, refl, sym, ◌∙◌, ap, arith, Option, Some, None, Result, Ok, Err}
+use Rattle.std.proofs.Common.{◌≡◌, ℕ, ◌+◌, ◌<◌, ◌≤◌, Bool, true, false, not, cond, List, [], ◌∷◌, ◌++◌, length, length-append, get_or, take, drop, map, refl, sym, ◌∙◌, ap, arith, Option, Some, None, option_map, Result, Ok, Err}
 use Rattle.std.specs.Prelude.{OnErr, is_some, ◌==◌, ◌||◌, suc}
 use Rattle.std.proofs.lemmas.List.{length-take-le}
-use Rattle.std.proofs.lemmas.List.Folds.{list_any_at}
+use Rattle.std.proofs.lemmas.List.Folds.{list_any_at, list_any-append}
 use Rattle.std.proofs.lemmas.List.Sums.{prefix_len_is}
 use Rattle.std.proofs.Math.Numerals.{one-add}
 use Rattle.std.specs.List.{prefix_len, list_any}
@@ -14,6 +14,7 @@ use Rattle.rv_expression_laws.specs.Front.{atom_at}
 use Rattle.rv_expression_laws.proofs.CutLemmas.{cut-some}
 use Rattle.rv_expression_laws.proofs.AtomsLemmas.{atoms}
 use Rattle.rv_lexer.specs.Token.{string_bytes}
+use Rattle.rv_lexer.proofs.InsideLemmas.{string_more}
 
 pub on_err : {T E P : Type 0} (r : Result T E) → P → OnErr r P
 on_err (Ok x) p = tt
@@ -75,6 +76,22 @@ plain_bytes bytes n is = all bytes ∙ ap (λ (k : ℕ). take k bytes ++ string_
 
 pub in_two : (bytes plain behind : List ℕ) (n : ℕ) → n ≡ prefix_len is_plain bytes → plain ≡ take n bytes → behind ≡ drop n bytes → string_bytes bytes ≡ plain ++ string_bytes behind
 in_two bytes plain behind n is front back = rw (front, back) (plain_bytes bytes n is)
+
+-- an atom, the bytes behind it that stand as they are, and what is behind them
+pub atom_and_plain : (bytes after plain behind : List ℕ) (b n k : ℕ) → ◌≡◌ {A = Option (ℕ × ℕ)} (Some (b, n)) (option_map (λ f. (byte_of f.0, f.1)) (atom_at bytes)) → after ≡ drop n bytes
+    → k ≡ prefix_len is_plain after → plain ≡ take k after → behind ≡ drop k after → string_bytes bytes ≡ b ∷ (plain ++ string_bytes behind)
+atom_and_plain bytes after plain behind b n k atom is count front back =
+    string_more bytes b n atom
+    ∙ ap (λ r. b ∷ string_bytes r) (sym is)
+    ∙ ap (λ l. b ∷ l) (in_two after plain behind k count front back)
+
+-- whether a byte is among those of a string that begins with another one
+pub any_behind : (w b : ℕ) (bytes plain behind : List ℕ) → string_bytes bytes ≡ b ∷ (plain ++ string_bytes behind) → (b == w) ≡ false
+    → list_any (λ byte. byte == w) (string_bytes bytes) ≡ (list_any (λ byte. byte == w) plain || list_any (λ byte. byte == w) (string_bytes behind))
+any_behind w b bytes plain behind is other =
+    ap (list_any (λ byte. byte == w)) is
+    ∙ ap (λ t. t || list_any (λ byte. byte == w) (plain ++ string_bytes behind)) other
+    ∙ list_any-append (λ byte. byte == w) plain (string_bytes behind)
 
 pub plain_size : (bytes behind : List ℕ) (n : ℕ) → n ≡ prefix_len is_plain bytes → n ≤ length bytes → behind ≡ drop n bytes → n + length (string_bytes behind) ≡ length (string_bytes bytes)
 plain_size bytes behind n is within back =

@@ -1,8 +1,8 @@
 //! Strings and characters.
 //!
-//! Most strings have no escape, so the bytes up to the first one are found by `memchr` and taken at once.
+//! Most bytes of a string stand for themselves, so those up to the next escape are found by `memchr` and taken at once.
 
-ghost use Rattle.std.specs.Prelude.{◌≡◌, ℕ, List, ◌==◌, ◌+◌, ◌%◌, ◌<◌, ◌≤◌, None, false, length, take, option_map, if◌then◌else◌, OnOk, OnErr, ◌++◌};
+ghost use Rattle.std.specs.Prelude.{◌≡◌, ℕ, List, ◌==◌, ◌+◌, ◌%◌, ◌<◌, ◌≤◌, None, false, length, take, drop, option_map, if◌then◌else◌, OnOk, OnErr, ◌++◌};
 ghost use Rattle.std.specs.List.{prefix_len, list_any};
 ghost use Rattle.rv_expression_laws.specs.Cut.{cut};
 ghost use Rattle.rv_expression_laws.specs.Bytes.{is_digit};
@@ -142,16 +142,24 @@ fn plain_length(bytes: &[u8]) -> usize
     }
 }
 
+/// What is behind the bytes at the front that stand in a string as they are.
+fn behind_plain(bytes: &[u8]) -> &[u8]
+    ensures behind { result.now ≡ drop (prefix_len is_plain bytes.now) bytes.now }
+    ensures within { length result.now ≤ length bytes.now }
+{
+    let (_, behind) = bytes.split_at(plain_length(bytes));
+    behind
+}
+
 /// The length of a string's inside, where a quote closes it.
 pub(crate) fn string_length(bytes: &[u8]) -> Option<usize>
     ensures { option_map (λ n. (grammar.Text (string_bytes (take n bytes.now)), n + 2)) result
         ≡ closed_string (cut atom_at bytes.now) }
 {
-    let (_, behind) = bytes.split_at(plain_length(bytes));
-    let mut rest = behind;
+    let mut rest = behind_plain(bytes);
     while let Some((_, length)) = atom_at(rest) {
         let (_, after) = rest.split_at(length);
-        rest = after;
+        rest = behind_plain(after);
     }
     if begins(b'"', rest) {
         Some(bytes.len() - rest.len())
@@ -160,7 +168,7 @@ pub(crate) fn string_length(bytes: &[u8]) -> Option<usize>
     }
 }
 
-/// Appends the bytes that a string has, one by one; an error leaves the first of them appended.
+/// Appends the bytes that a string has, an escape and what follows it at a time; an error leaves the first of them appended.
 fn append_each(text: &[u8], bytes: &mut Vec<u8>) -> Result<(), AllocError>
     ensures ok { OnOk result (bytes.new.items ≡ bytes.old.items ++ string_bytes text.now) }
     ensures err { OnErr result ((first more : List ℕ)
@@ -170,7 +178,9 @@ fn append_each(text: &[u8], bytes: &mut Vec<u8>) -> Result<(), AllocError>
     while let Some((byte, length)) = atom_at(rest) {
         bytes.push(byte)?;
         let (_, after) = rest.split_at(length);
-        rest = after;
+        let (plain, behind) = after.split_at(plain_length(after));
+        bytes.extend_from_slice(plain)?;
+        rest = behind;
     }
     Ok(())
 }
@@ -209,7 +219,11 @@ pub fn string_contains(text: &[u8], wanted: u8) -> bool
             return true;
         }
         let (_, after) = rest.split_at(length);
-        rest = after;
+        let (plain, behind) = after.split_at(plain_length(after));
+        if has_byte(plain, wanted) {
+            return true;
+        }
+        rest = behind;
     }
     false
 }
@@ -224,8 +238,10 @@ pub fn string_size(text: &[u8]) -> usize
     let mut size = plain;
     while let Some((_, length)) = atom_at(rest) {
         let (_, after) = rest.split_at(length);
-        rest = after;
-        size += 1;
+        let plain = plain_length(after);
+        let (_, behind) = after.split_at(plain);
+        rest = behind;
+        size += 1 + plain;
     }
     size
 }

@@ -19,7 +19,7 @@ use Rattle.rv_machine.specs.Streams.{MayFollow}
 use Rattle.rv_machine.specs.StreamSteps.{Input, HasRead}
 use Rattle.rv_machine.specs.Counts.{run_length}
 use Rattle.rv_machine.specs.Outcome.{outcome_of}
-use Rattle.rv_snapshots.specs.Snapshot.{state_in}
+use Rattle.rv_states.specs.Snapshot.{state_in}
 use Rattle.rv_library.specs.declared.runs.Stop.{Stop}
 use Rattle.rv_library.specs.declared.resuming.Resumption.{Resumption}
 use Rattle.rv_library.specs.Resumed.{IsResumed, IsResumedFrom}

@@ -10,7 +10,7 @@ use Rattle.rv_image_laws.specs.Image.{Image}
 use Rattle.rv_memory.specs.HeldPages.{held_pages}
 use Rattle.rv_machine.specs.End.{law_end}
 use Rattle.rv_machine.specs.Hart.{hart_of}
-use Rattle.rv_snapshots.specs.Snapshot.{state_in, has_snapshots}
+use Rattle.rv_states.specs.Snapshot.{state_in, has_snapshots}
 use Rattle.rv_library.specs.declared.answers.Answer.{Answer}
 use Rattle.rv_library.specs.declared.ends.Ended.{Ended}
 use Rattle.rv_library.specs.declared.resuming.Resumption.{Resumption}

@@ -2,14 +2,14 @@
 //!
 //! A debugger asks for state after state of one run. From the start each would cost all steps before it, so a call gives the
 //! state that it reaches as bytes, and the next one begins there. The bytes are the caller's, and nothing in them is believed:
-//! `state_in` of `rv_snapshots` says for any bytes which state they are, if any.
+//! `state_in` of `rv_states` says for any bytes which state they are, if any.
 
 ghost use Rattle.std.specs.Prelude.{◌≡◌, ◌≤◌, ℕ, List, [], false, length, drop, IfOk, IfErr};
 ghost use Rattle.rv_image.specs.Views.{image_of};
 ghost use Rattle.rv_image_laws.specs.Memory.{mem_of};
 ghost use Rattle.rv_machine.specs.Hart.{hart_of};
 ghost use Rattle.rv_memory.specs.HeldPages.{held_pages};
-ghost use Rattle.rv_snapshots.specs.Keeps.{Keeps};
+ghost use Rattle.rv_states.specs.Keeps.{Keeps};
 ghost use Rattle.rv_library.specs.Ran.{IsStop};
 ghost use Rattle.rv_library.specs.Resumed.{GivesResumed, IsResumed, IsResumedFrom, IsResumptionGiven};
 
@@ -20,7 +20,7 @@ use crate::runs::{KEPT, Reached, Stop, image_in, run_on};
 use crate::states::{State, show};
 use rv_image::Image;
 use rv_memory::copied_image;
-use rv_snapshots::{Resumed, keeping_goes_on, resume, runs_keep, snapshot, snapshots_keep};
+use rv_states::{Resumed, keeping_goes_on, resume, runs_keep, snapshot, snapshots_keep};
 use std::alloc::Global;
 
 /// What a run from a kept state has reached, and that state as bytes.

@@ -5,15 +5,34 @@ use rv_chain::{Built, LinkOptions, build};
 use rv_elf::{ElfView, ElfWriter, SectionIndex, SymbolIndex};
 use rv_elf_laws::Symbol;
 use rv_image::{FileFault, load};
-use rv_object::{Object, read, write};
+use rv_map::{Map, reread};
+use rv_object_reader::read;
+use rv_object_types::Object;
+use rv_object_writer::write;
 use std::alloc::Global;
 use std::test::Fail;
 
 /// A program that exits with 7.
 const SOURCE: &[u8] = b".globl _start\n_start: li a0, 7\nli a7, 93\necall\n";
 
-/// The index of `.symtab` in the object of a source without relocations: `.text`, `.rv.rows` and `.symtab`.
-const SYMBOLS: SectionIndex = SectionIndex(3);
+/// Sections of every kind, names of every kind, a padding in code, constants and differences.
+const KINDS: &[u8] = b".globl _start, size, place, open
+.set size, 0x123456789
+_start: li a7, 93
+.balign 8
+here: ecall
+call open
+.data
+place: .dword here, size, there - place, open + 4
+.balign 16
+there: .byte 1
+.bss
+.zero 5
+.section .note.x, \"a\", @note
+.word 1
+.section notes
+inside: .word 2
+";
 
 /// Whether an object is read from a file as it is assembled from a source.
 fn is_object_of<'a>(alloc: Global, file: &'a [u8], source: &'a [u8]) -> Result<bool, Fail> {
@@ -21,32 +40,45 @@ fn is_object_of<'a>(alloc: Global, file: &'a [u8], source: &'a [u8]) -> Result<b
     Ok(object == assemble(alloc, source)?)
 }
 
+/// Whether the object of a source is read as it is written, and is no executable.
+fn comes_back(alloc: Global, source: &[u8]) -> Result<bool, Fail> {
+    let file = write(alloc, &assemble(alloc, source)?)?;
+    Ok(is_object_of(alloc, &file, source)? && load(alloc, &file) == Err(FileFault::NotExecutable))
+}
+
 #[test]
 fn objects(rt: HostRuntime) -> Result<(), Fail> {
-    let alloc = rt.alloc();
-    let object = assemble(alloc, SOURCE)?;
-    assert_eq!(rt; object.sections.len(), 1);
-    assert!(rt; object.rvc);
-    let file = write(alloc, &object)?;
-    assert!(rt; is_object_of(alloc, &file, SOURCE)?);
-    // an object is no executable
-    assert!(rt; load(alloc, &file) == Err(FileFault::NotExecutable));
+    for source in [SOURCE, KINDS] {
+        assert!(rt; comes_back(rt.alloc(), source)?);
+    }
     Ok(())
+}
+
+/// The index of `.symtab` in the object of a source without relocations: `.text`, `.rv.rows` and `.symtab`.
+const SYMBOLS: SectionIndex = SectionIndex(3);
+
+/// The first symbol after symbol 0, which is none, with its name.
+fn first_symbol<'a>(view: &ElfView<'a>) -> Option<(Symbol, &'a [u8])> {
+    if view.header().e_shnum <= SYMBOLS.0 {
+        return None;
+    }
+    let header = view.section_header(SYMBOLS);
+    if header.sh_size != 48 || view.section(SYMBOLS).len() != 48 {
+        return None;
+    }
+    let symbol = view.symbol(SYMBOLS, SymbolIndex(1));
+    if header.sh_link >= u32::from(view.header().e_shnum) {
+        return None;
+    }
+    let name = view.name(SectionIndex(header.sh_link as u16), symbol.st_name)?;
+    Some((symbol, name))
 }
 
 #[test]
 fn records(rt: HostRuntime) -> Result<(), Fail> {
     let alloc = rt.alloc();
     let file = write(alloc, &assemble(alloc, SOURCE)?)?;
-    let view = ElfView::open(&file)?;
-    assert!(rt; SYMBOLS.0 < view.header().e_shnum);
-    let header = view.section_header(SYMBOLS);
-    // symbol 0 is none, and `_start` is the first after it
-    assert!(rt; header.sh_size == 48 && view.section(SYMBOLS).len() == 48);
-    let symbol = view.symbol(SYMBOLS, SymbolIndex(1));
-    assert!(rt; header.sh_link < u32::from(view.header().e_shnum));
-    let names = SectionIndex(header.sh_link as u16);
-    assert!(rt; view.name(names, symbol.st_name) == Some(b"_start".as_slice()));
+    let (symbol, name) = first_symbol(&ElfView::open(&file)?).ok_or("it has a symbol")?;
     // the same record, written
     let mut writer = ElfWriter::new(alloc);
     writer.raw(b"front")?;
@@ -55,8 +87,9 @@ fn records(rt: HostRuntime) -> Result<(), Fail> {
         ..symbol
     })?;
     let written = writer.finish();
-    assert_eq!(rt; written.len(), 29);
-    assert!(rt; written.starts_with(b"front"));
+    assert!(rt;
+        name == b"_start".as_slice() && written.len() == 29 && written.starts_with(b"front")
+    );
     Ok(())
 }
 
@@ -70,19 +103,21 @@ fn built(alloc: Global) -> Result<Built, Fail> {
     Ok(build(alloc, &[SOURCE], options)?)
 }
 
+/// Whether a map knows the statement at an address: on line 2 that at the entry, none of one line within it.
+fn knows_rows(map: &Map) -> bool {
+    let Some(row) = map.row_at(map.entry) else {
+        return false;
+    };
+    (row.file, row.line, row.bytes) == (1, 2, 2) && map.row_at(map.entry | 1).is_none()
+}
+
 #[test]
 fn maps(rt: HostRuntime) -> Result<(), Fail> {
     let alloc = rt.alloc();
     let text = built(alloc)?.map;
-    let Some(map) = rv_map::read(alloc, &text)? else {
-        return Err(Fail::new("no map"));
-    };
-    // the statement that stands at the entry, on line 2
-    match map.row_at(map.entry) {
-        Some(row) => assert_eq!(rt; (row.file, row.line, row.bytes), (1, 2, 2)),
-        None => assert!(rt; false, "no row"),
-    }
-    assert!(rt; rv_map::write(alloc, &map)? == text);
+    let map = rv_map::read(alloc, &text)?.ok_or("it is a map")?;
+    assert!(rt; knows_rows(&map));
+    assert!(rt; rv_map::write(alloc, &map)? == text && reread(alloc, &map)? == Some(map));
     assert!(rt; rv_map::read(alloc, b"")?.is_none());
     Ok(())
 }
@@ -100,10 +135,9 @@ fn executables(rt: HostRuntime) -> Result<(), Fail> {
     let alloc = rt.alloc();
     let file = built(alloc)?.exe;
     let view = ElfView::open(&file)?;
-    assert!(rt; 0 < view.header().e_phnum);
-    assert_eq!(rt; view.program(0).p_vaddr, 0x1_0000);
+    assert!(rt; 0 < view.header().e_phnum && view.program(0).p_vaddr == 0x1_0000);
     let image = load(alloc, &file)?;
-    assert_eq!(rt; (image.entry, image.segments.len()), (0x1_0000, 1));
+    assert!(rt; (image.entry, image.segments.len()) == (0x1_0000, 1));
     // a file that is cut off is refused
     assert!(rt; load(alloc, front(&file)) == Err(FileFault::Truncated));
     Ok(())

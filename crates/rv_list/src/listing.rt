@@ -1,10 +1,11 @@
 //! The lines of a listing.
 
 use crate::bytes::collect;
-use crate::columns::{put, put_blanks, put_bytes, put_right};
+use crate::columns::Column::{Address, Blanks, Bytes, Right, Text};
+use crate::columns::{Column, put_columns};
 use memchr::memchr;
 use rv_image::Image;
-use rv_map::{Map, put_padded};
+use rv_map::Map;
 use rv_map_laws::Row;
 use std::alloc::{AllocError, Global};
 
@@ -152,11 +153,8 @@ fn width_of(map: &Map) -> usize {
 
 /// Adds the name of a source, with an empty line below it, and above it unless it is the first.
 fn put_heading(text: &mut Vec<u8>, is_first: bool, name: &str) -> Result<(), AllocError> {
-    if !is_first {
-        put(text, b"\n")?;
-    }
-    put(text, name.as_bytes())?;
-    put(text, b":\n\n")
+    let above: &[u8] = if is_first { b"" } else { b"\n" };
+    put_columns(text, &[Text(above), Text(name.as_bytes()), Text(b":\n\n")])
 }
 
 /// The statements after those that are passed, of a file, on this line or before it.
@@ -178,36 +176,38 @@ fn count_up_to(rows: &[Row], file: u64, line: u64) -> usize {
 }
 
 /// Adds the rows of a line.
-fn put_rows(
+fn put_rows<'a>(
     text: &mut Vec<u8>,
     shape: &Shape<'_>,
     number: u64,
     address: Option<u64>,
-    bytes: &[u8],
-    line: &[u8],
+    bytes: &'a [u8],
+    line: &'a [u8],
 ) -> Result<(), AllocError> {
-    put_right(text, number, 4)?;
-    put(text, b" ")?;
-    match address {
-        Some(address) => put_address(text, address, shape.width)?,
-        None => put_blanks(text, shape.width)?,
-    }
-    put(text, b" ")?;
     let first = bytes.get(..ROW_BYTES).unwrap_or(bytes);
-    put_bytes(text, first)?;
-    put_blanks(text, 9usize.saturating_sub(2 * first.len()))?;
-    put(text, b"\t")?;
-    put(text, line.strip_suffix(b"\r").unwrap_or(line))?;
-    put(text, b"\n")?;
+    put_columns(
+        text,
+        &[
+            Right(number, 4),
+            Text(b" "),
+            address_column(address, shape.width),
+            Text(b" "),
+            Bytes(first),
+            Blanks(9usize.saturating_sub(2 * first.len())),
+            Text(b"\t"),
+            Text(line.strip_suffix(b"\r").unwrap_or(line)),
+            Text(b"\n"),
+        ],
+    )?;
     put_further(text, shape, number, bytes.get(ROW_BYTES..).unwrap_or(&[]))
 }
 
-/// Adds an address in so many digits, one at least.
-fn put_address(text: &mut Vec<u8>, address: u64, width: usize) -> Result<(), AllocError> {
-    if width == 0 {
-        return put_padded(text, address, 1);
+/// The column of an address, blank where a line has none.
+fn address_column(address: Option<u64>, width: usize) -> Column<'static> {
+    match address {
+        Some(address) => Address(address, width),
+        None => Blanks(width),
     }
-    put_padded(text, address, width)
 }
 
 /// Adds the rows below the first of a line.
@@ -218,10 +218,15 @@ fn put_further(
     bytes: &[u8],
 ) -> Result<(), AllocError> {
     for row in bytes.chunks(ROW_BYTES) {
-        put_right(text, number, 4)?;
-        put_blanks(text, shape.width.saturating_add(2))?;
-        put_bytes(text, row)?;
-        put(text, b"\n")?;
+        put_columns(
+            text,
+            &[
+                Right(number, 4),
+                Blanks(shape.width.saturating_add(2)),
+                Bytes(row),
+                Text(b"\n"),
+            ],
+        )?;
     }
     Ok(())
 }

@@ -8,7 +8,7 @@ ghost use Rattle.rv_parse.specs.Left.{ReadsInstruction};
 
 use crate::operands::{self, given, with};
 use crate::parcel::parcel;
-use crate::{access, jump, slot, value};
+use crate::{access, jump, slot};
 use rv_expression::{Cursor, ReadError};
 use rv_isa::{RegisterOperation, UpperOperation};
 use rv_parse_words::Role;
@@ -32,12 +32,10 @@ fn registers<'a>(
     let rs1 = slot::register(cursor)?;
     slot::comma(cursor, Slot::ANY_REGISTER)?;
     if has_constant(operation) && !slot::begins_register(cursor) {
-        let value = value::value_or_function(alloc, cursor, Role::Source)?;
-        slot::end(cursor, Slot::Value(Role::Source))?;
+        let value = operands::one_argument(alloc, cursor, Role::Source)?;
         return Ok(given(Operation::Registers(operation, rd, rs1), value));
     }
-    let rs2 = slot::register(cursor)?;
-    slot::end(cursor, Slot::ANY_REGISTER)?;
+    let rs2 = operands::last_register(cursor)?;
     Ok(StatementKind::Plain(Plain::Registers(operation, rd, rs1, rs2)))
 }
 

@@ -9,7 +9,7 @@ ghost use Rattle.rv_parse_laws.specs.Parsing.{operands_at, seen_as};
 ghost use Rattle.rv_lexer.specs.Cursor.{remaining, Answers};
 ghost use Rattle.rv_parse.specs.Left.{ReadsInstruction};
 
-use crate::operands::{given, with};
+use crate::operands::{self, given, with};
 use crate::{slot, value};
 use rv_expression::{Cursor, ReadError};
 use rv_isa::Reg;
@@ -25,14 +25,10 @@ pub fn jal<'a>(alloc: Global, cursor: &mut Cursor<'a>) -> Result<StatementKind<'
     ensures { ReadsInstruction Jal cursor.old cursor.new result }
 {
     if slot::begins_register(cursor) {
-        let rd = slot::register(cursor)?;
-        slot::comma(cursor, Slot::ANY_REGISTER)?;
-        let target = value::value(alloc, cursor, Role::Target)?;
-        slot::end(cursor, Slot::Value(Role::Target))?;
+        let (rd, target) = operands::register_and_value(alloc, cursor, Role::Target)?;
         return Ok(with(Operation::Jal(rd), target));
     }
-    let target = value::value(alloc, cursor, Role::Target)?;
-    slot::end(cursor, Slot::Value(Role::Target))?;
+    let target = operands::one_value(alloc, cursor, Role::Target)?;
     Ok(with(Operation::JalLinked, target))
 }
 

@@ -37,6 +37,17 @@ pub fn none(cursor: &Cursor<'_>) -> Result<(), SyntaxError>
     slot::end(cursor, Slot::ANY_REGISTER)
 }
 
+/// The last register.
+#[tactic(auto, unfolding(rv_parse_laws::specs::Parsing::operands_at))]
+pub fn last_register(cursor: &mut Cursor<'_>) -> Result<Reg, SyntaxError>
+    ensures { Gives (λ r. (Register r ∷ [], remaining cursor.new)) result
+        (operands_at (last A_register) (remaining cursor.old)) }
+{
+    let register = slot::register(cursor)?;
+    slot::end(cursor, Slot::ANY_REGISTER)?;
+    Ok(register)
+}
+
 /// `rd, rs`
 #[tactic(auto, unfolding(rv_parse_laws::specs::Parsing::operands_at))]
 pub fn two_registers(cursor: &mut Cursor<'_>) -> Result<(Reg, Reg), SyntaxError>
@@ -45,9 +56,7 @@ pub fn two_registers(cursor: &mut Cursor<'_>) -> Result<(Reg, Reg), SyntaxError>
 {
     let rd = slot::register(cursor)?;
     slot::comma(cursor, Slot::ANY_REGISTER)?;
-    let rs = slot::register(cursor)?;
-    slot::end(cursor, Slot::ANY_REGISTER)?;
-    Ok((rd, rs))
+    Ok((rd, last_register(cursor)?))
 }
 
 /// `rd, rs1, rs2`
@@ -60,10 +69,7 @@ pub fn three_registers(cursor: &mut Cursor<'_>) -> Result<(Reg, Reg, Reg), Synta
 {
     let rd = slot::register(cursor)?;
     slot::comma(cursor, Slot::ANY_REGISTER)?;
-    let rs1 = slot::register(cursor)?;
-    slot::comma(cursor, Slot::ANY_REGISTER)?;
-    let rs2 = slot::register(cursor)?;
-    slot::end(cursor, Slot::ANY_REGISTER)?;
+    let (rs1, rs2) = two_registers(cursor)?;
     Ok((rd, rs1, rs2))
 }
 
@@ -107,9 +113,7 @@ pub fn register_and_argument<'a>(
 {
     let register = slot::register(cursor)?;
     slot::comma(cursor, Slot::ANY_REGISTER)?;
-    let value = value::value_or_function(alloc, cursor, role)?;
-    slot::end(cursor, Slot::Value(role))?;
-    Ok((register, value))
+    Ok((register, one_argument(alloc, cursor, role)?))
 }
 
 /// Two registers and a value.
@@ -127,10 +131,7 @@ pub fn registers_and_argument<'a>(
 {
     let first = slot::register(cursor)?;
     slot::comma(cursor, Slot::ANY_REGISTER)?;
-    let second = slot::register(cursor)?;
-    slot::comma(cursor, Slot::ANY_REGISTER)?;
-    let value = value::value_or_function(alloc, cursor, role)?;
-    slot::end(cursor, Slot::Value(role))?;
+    let (second, value) = register_and_argument(alloc, cursor, role)?;
     Ok((first, second, value))
 }
 
@@ -164,9 +165,7 @@ pub fn register_and_value<'a>(
 {
     let register = slot::register(cursor)?;
     slot::comma(cursor, Slot::ANY_REGISTER)?;
-    let value = value::value(alloc, cursor, role)?;
-    slot::end(cursor, Slot::Value(role))?;
-    Ok((register, value))
+    Ok((register, one_value(alloc, cursor, role)?))
 }
 
 /// Two registers and an expression.
@@ -185,9 +184,6 @@ pub fn registers_and_value<'a>(
 {
     let first = slot::register(cursor)?;
     slot::comma(cursor, Slot::ANY_REGISTER)?;
-    let second = slot::register(cursor)?;
-    slot::comma(cursor, Slot::ANY_REGISTER)?;
-    let value = value::value(alloc, cursor, role)?;
-    slot::end(cursor, Slot::Value(role))?;
+    let (second, value) = register_and_value(alloc, cursor, role)?;
     Ok((first, second, value))
 }

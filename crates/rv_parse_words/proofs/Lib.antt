@@ -1,2 +1,2 @@
--- A look-up in a table among the names of the word's length or of its second byte alone.
+-- A look-up in a table among the names of the word's place alone.
 pub mod TablesLemmas

@@ -1,6 +1,6 @@
 -- What the types of words and slots stand for.
 
-use Rattle.std.specs.Prelude.{ℕ, List, [], ◌∷◌, Option, None, map}
+use Rattle.std.specs.Prelude.{ℕ, ◌-◌, List, [], ◌∷◌, length, get_or, Option, None, map}
 use Rattle.std.specs.Borrow.{Bor}
 use Rattle.rv_expression_laws.specs.Grammar.{Kind, Name}
 use Rattle.rv_statement_laws.specs.declared.directive.Choice.{Choice}
@@ -50,3 +50,7 @@ abbrev pub second : List ℕ → ℕ
 second [] = 0
 second (b ∷ []) = 0
 second (b ∷ c ∷ word) = c
+
+-- the last byte of a word, and 0 where it has none
+abbrev pub last_byte : List ℕ → ℕ
+last_byte word = get_or word (length word - 1) 0

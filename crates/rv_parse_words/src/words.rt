@@ -1,18 +1,18 @@
 //! The words that may begin a statement.
 //!
-//! Mnemonics stand in one table for each length, and directives in one table of short lists, by their second byte: a
-//! look-up compares a word with few. An atomic has no row of its own: it is an operation and an ending for its width
+//! Mnemonics and directives stand in a table of short lists each, by a place that is made of a word's bytes: a look-up
+//! compares it with few. An atomic has no row of its own: it is an operation and an ending for its width
 //! and its order, since all of them in one table would be 88 rows that say the same. The tables are data, so one
 //! contract on the look-up covers every row.
 
-ghost use Rattle.std.specs.Prelude.{◌≡◌, ◌<◌, [], length, map, slice_index_or, ◌||◌, ◌&&◌, option_map, is_some, codes};
+ghost use Rattle.std.specs.Prelude.{◌≡◌, ◌<◌, [], length, map, slice_index_or, ◌||◌, ◌&&◌, ◌+◌, ◌*◌, ◌%◌, option_map, is_some, codes};
 ghost use Rattle.std.specs.Option.{option_or};
 ghost use Rattle.rv_parse_laws.specs.Words.{function_words, left_out_words, left_out_options, section_types, choices, is_among, is_frame, frame_directive, directive_words, directive_named, beginning, register, named_in, atomic_forms, form_behind, atomic_in, atomic_operations, instruction_words, mnemonic_named};
 ghost use Rattle.rv_statement_laws.specs.declared.mnemonic.Mnemonic.TheVariants.{LoadReserved};
 ghost use Rattle.std.specs.List.{list_all};
 ghost use Rattle.rv_parse_laws.specs.Syntax.{access_sets, with_constant, is_flag};
 ghost use Rattle.rv_parse_laws.specs.Faults.{is_known_flag};
-ghost use Rattle.rv_parse_words.specs.View.{named_of, named_rows, second};
+ghost use Rattle.rv_parse_words.specs.View.{named_of, named_rows, second, last_byte};
 
 use rv_expression::LONGEST_NAME;
 use rv_isa::{
@@ -119,177 +119,232 @@ pub fn register_named(name: &[u8]) -> Option<Reg>
     reg_named(name)
 }
 
-/// The mnemonics but the atomics, of 1 letter.
-const OF_ONE: [(&str, Mnemonic); 1] = [("j", Mnemonic::J)];
-
-/// The mnemonics but the atomics, of 2 letters.
-const OF_TWO: [(&str, Mnemonic); 13] = [
-    ("lb", Mnemonic::Load(LoadOperation::Lb)),
-    ("lh", Mnemonic::Load(LoadOperation::Lh)),
-    ("lw", Mnemonic::Load(LoadOperation::Lw)),
-    ("ld", Mnemonic::Load(LoadOperation::Ld)),
-    ("sb", Mnemonic::Store(StoreOperation::Sb)),
-    ("sh", Mnemonic::Store(StoreOperation::Sh)),
-    ("sw", Mnemonic::Store(StoreOperation::Sw)),
-    ("sd", Mnemonic::Store(StoreOperation::Sd)),
-    ("or", Mnemonic::Registers(RegisterOperation::Or)),
-    ("li", Mnemonic::Li),
-    ("mv", Mnemonic::Unary(UnaryOperation::Mv)),
-    ("jr", Mnemonic::Jr),
-    ("la", Mnemonic::La),
-];
-
-/// The mnemonics but the atomics, of 3 letters.
-const OF_THREE: [(&str, Mnemonic); 30] = [
-    ("lui", Mnemonic::Upper(UpperOperation::Lui)),
-    ("jal", Mnemonic::Jal),
-    ("beq", Mnemonic::Branch(BranchOperation::Beq)),
-    ("bne", Mnemonic::Branch(BranchOperation::Bne)),
-    ("blt", Mnemonic::Branch(BranchOperation::Blt)),
-    ("bge", Mnemonic::Branch(BranchOperation::Bge)),
-    ("lbu", Mnemonic::Load(LoadOperation::Lbu)),
-    ("lhu", Mnemonic::Load(LoadOperation::Lhu)),
-    ("lwu", Mnemonic::Load(LoadOperation::Lwu)),
-    ("ori", Mnemonic::Immediate(ImmediateOperation::Ori)),
-    ("add", Mnemonic::Registers(RegisterOperation::Add)),
-    ("sub", Mnemonic::Registers(RegisterOperation::Sub)),
-    ("sll", Mnemonic::Registers(RegisterOperation::Sll)),
-    ("slt", Mnemonic::Registers(RegisterOperation::Slt)),
-    ("xor", Mnemonic::Registers(RegisterOperation::Xor)),
-    ("srl", Mnemonic::Registers(RegisterOperation::Srl)),
-    ("sra", Mnemonic::Registers(RegisterOperation::Sra)),
-    ("and", Mnemonic::Registers(RegisterOperation::And)),
-    ("mul", Mnemonic::Registers(RegisterOperation::Mul)),
-    ("div", Mnemonic::Registers(RegisterOperation::Div)),
-    ("rem", Mnemonic::Registers(RegisterOperation::Rem)),
-    ("nop", Mnemonic::Nop),
-    ("not", Mnemonic::Unary(UnaryOperation::Not)),
-    ("neg", Mnemonic::Unary(UnaryOperation::Neg)),
-    ("sgt", Mnemonic::Compare(CompareOperation::Sgt)),
-    ("bgt", Mnemonic::SwappedBranch(SwappedBranchOperation::Bgt)),
-    ("ble", Mnemonic::SwappedBranch(SwappedBranchOperation::Ble)),
-    ("ret", Mnemonic::Ret),
-    ("lla", Mnemonic::La),
-    ("c.j", Mnemonic::Parcel(ParcelOperation::J)),
-];
-
-/// The mnemonics but the atomics, of 4 letters.
-const OF_FOUR: [(&str, Mnemonic); 47] = [
-    ("jalr", Mnemonic::Jalr),
-    ("bltu", Mnemonic::Branch(BranchOperation::Bltu)),
-    ("bgeu", Mnemonic::Branch(BranchOperation::Bgeu)),
-    ("addi", Mnemonic::Immediate(ImmediateOperation::Addi)),
-    ("slti", Mnemonic::Immediate(ImmediateOperation::Slti)),
-    ("xori", Mnemonic::Immediate(ImmediateOperation::Xori)),
-    ("andi", Mnemonic::Immediate(ImmediateOperation::Andi)),
-    ("slli", Mnemonic::Shift(ShiftOperation::Slli)),
-    ("srli", Mnemonic::Shift(ShiftOperation::Srli)),
-    ("srai", Mnemonic::Shift(ShiftOperation::Srai)),
-    ("sltu", Mnemonic::Registers(RegisterOperation::Sltu)),
-    ("addw", Mnemonic::Registers(RegisterOperation::Addw)),
-    ("subw", Mnemonic::Registers(RegisterOperation::Subw)),
-    ("sllw", Mnemonic::Registers(RegisterOperation::Sllw)),
-    ("srlw", Mnemonic::Registers(RegisterOperation::Srlw)),
-    ("sraw", Mnemonic::Registers(RegisterOperation::Sraw)),
-    ("mulh", Mnemonic::Registers(RegisterOperation::Mulh)),
-    ("divu", Mnemonic::Registers(RegisterOperation::Divu)),
-    ("remu", Mnemonic::Registers(RegisterOperation::Remu)),
-    ("mulw", Mnemonic::Registers(RegisterOperation::Mulw)),
-    ("divw", Mnemonic::Registers(RegisterOperation::Divw)),
-    ("remw", Mnemonic::Registers(RegisterOperation::Remw)),
-    ("negw", Mnemonic::Unary(UnaryOperation::Negw)),
-    ("seqz", Mnemonic::Unary(UnaryOperation::Seqz)),
-    ("snez", Mnemonic::Unary(UnaryOperation::Snez)),
-    ("sltz", Mnemonic::Unary(UnaryOperation::Sltz)),
-    ("sgtz", Mnemonic::Unary(UnaryOperation::Sgtz)),
-    ("sgtu", Mnemonic::Compare(CompareOperation::Sgtu)),
-    ("beqz", Mnemonic::ZeroBranch(ZeroBranchOperation::Beqz)),
-    ("bnez", Mnemonic::ZeroBranch(ZeroBranchOperation::Bnez)),
-    ("bgez", Mnemonic::ZeroBranch(ZeroBranchOperation::Bgez)),
-    ("bltz", Mnemonic::ZeroBranch(ZeroBranchOperation::Bltz)),
-    ("blez", Mnemonic::ZeroBranch(ZeroBranchOperation::Blez)),
-    ("bgtz", Mnemonic::ZeroBranch(ZeroBranchOperation::Bgtz)),
-    (
-        "bgtu",
-        Mnemonic::SwappedBranch(SwappedBranchOperation::Bgtu),
-    ),
-    (
-        "bleu",
-        Mnemonic::SwappedBranch(SwappedBranchOperation::Bleu),
-    ),
-    ("call", Mnemonic::Call),
-    ("tail", Mnemonic::Tail),
-    ("jump", Mnemonic::Jump),
-    ("c.lw", Mnemonic::Parcel(ParcelOperation::Lw)),
-    ("c.ld", Mnemonic::Parcel(ParcelOperation::Ld)),
-    ("c.sw", Mnemonic::Parcel(ParcelOperation::Sw)),
-    ("c.sd", Mnemonic::Parcel(ParcelOperation::Sd)),
-    ("c.li", Mnemonic::Parcel(ParcelOperation::Li)),
-    ("c.or", Mnemonic::Parcel(ParcelOperation::Or)),
-    ("c.jr", Mnemonic::Parcel(ParcelOperation::Jr)),
-    ("c.mv", Mnemonic::Parcel(ParcelOperation::Mv)),
-];
-
-/// The mnemonics but the atomics, of 5 letters.
-const OF_FIVE: [(&str, Mnemonic); 17] = [
-    ("auipc", Mnemonic::Upper(UpperOperation::Auipc)),
-    ("sltiu", Mnemonic::Immediate(ImmediateOperation::Sltiu)),
-    ("addiw", Mnemonic::Immediate(ImmediateOperation::Addiw)),
-    ("slliw", Mnemonic::Shift(ShiftOperation::Slliw)),
-    ("srliw", Mnemonic::Shift(ShiftOperation::Srliw)),
-    ("sraiw", Mnemonic::Shift(ShiftOperation::Sraiw)),
-    ("fence", Mnemonic::Fence),
-    ("ecall", Mnemonic::Ecall),
-    ("mulhu", Mnemonic::Registers(RegisterOperation::Mulhu)),
-    ("divuw", Mnemonic::Registers(RegisterOperation::Divuw)),
-    ("remuw", Mnemonic::Registers(RegisterOperation::Remuw)),
-    ("c.nop", Mnemonic::Parcel(ParcelOperation::Nop)),
-    ("c.lui", Mnemonic::Parcel(ParcelOperation::Lui)),
-    ("c.sub", Mnemonic::Parcel(ParcelOperation::Sub)),
-    ("c.xor", Mnemonic::Parcel(ParcelOperation::Xor)),
-    ("c.and", Mnemonic::Parcel(ParcelOperation::And)),
-    ("c.add", Mnemonic::Parcel(ParcelOperation::Add)),
-];
-
-/// The mnemonics but the atomics, of 6 letters.
-const OF_SIX: [(&str, Mnemonic); 22] = [
-    ("ebreak", Mnemonic::Ebreak),
-    ("mulhsu", Mnemonic::Registers(RegisterOperation::Mulhsu)),
-    ("sext.b", Mnemonic::Unary(UnaryOperation::SextB)),
-    ("sext.h", Mnemonic::Unary(UnaryOperation::SextH)),
-    ("sext.w", Mnemonic::Unary(UnaryOperation::SextW)),
-    ("zext.b", Mnemonic::Unary(UnaryOperation::ZextB)),
-    ("zext.h", Mnemonic::Unary(UnaryOperation::ZextH)),
-    ("zext.w", Mnemonic::Unary(UnaryOperation::ZextW)),
-    ("c.addi", Mnemonic::Parcel(ParcelOperation::Addi)),
-    ("c.srli", Mnemonic::Parcel(ParcelOperation::Srli)),
-    ("c.srai", Mnemonic::Parcel(ParcelOperation::Srai)),
-    ("c.andi", Mnemonic::Parcel(ParcelOperation::Andi)),
-    ("c.subw", Mnemonic::Parcel(ParcelOperation::Subw)),
-    ("c.addw", Mnemonic::Parcel(ParcelOperation::Addw)),
-    ("c.beqz", Mnemonic::Parcel(ParcelOperation::Beqz)),
-    ("c.bnez", Mnemonic::Parcel(ParcelOperation::Bnez)),
-    ("c.slli", Mnemonic::Parcel(ParcelOperation::Slli)),
-    ("c.lwsp", Mnemonic::Parcel(ParcelOperation::Lwsp)),
-    ("c.ldsp", Mnemonic::Parcel(ParcelOperation::Ldsp)),
-    ("c.jalr", Mnemonic::Parcel(ParcelOperation::Jalr)),
-    ("c.swsp", Mnemonic::Parcel(ParcelOperation::Swsp)),
-    ("c.sdsp", Mnemonic::Parcel(ParcelOperation::Sdsp)),
-];
-
-/// The mnemonics but the atomics, of 7 letters.
-const OF_SEVEN: [(&str, Mnemonic); 1] = [("c.addiw", Mnemonic::Parcel(ParcelOperation::Addiw))];
-
-/// The mnemonics but the atomics, of 8 letters.
-const OF_EIGHT: [(&str, Mnemonic); 1] = [("c.ebreak", Mnemonic::Parcel(ParcelOperation::Ebreak))];
-
-/// The mnemonics but the atomics, of 9 letters.
-const OF_NINE: [(&str, Mnemonic); 1] = [("fence.tso", Mnemonic::FenceTso)];
-
-/// The mnemonics but the atomics, of 10 letters.
-const OF_TEN: [(&str, Mnemonic); 2] = [
-    ("c.addi4spn", Mnemonic::Parcel(ParcelOperation::Addi4spn)),
-    ("c.addi16sp", Mnemonic::Parcel(ParcelOperation::Addi16sp)),
+/// The mnemonics but the atomics, by three times their second byte and their last one, modulo 64: so few share a list.
+static INSTRUCTIONS: [&[(&str, Mnemonic)]; 64] = [
+    &[("c.mv", Mnemonic::Parcel(ParcelOperation::Mv))],
+    &[
+        ("sub", Mnemonic::Registers(RegisterOperation::Sub)),
+        ("not", Mnemonic::Unary(UnaryOperation::Not)),
+        ("c.lw", Mnemonic::Parcel(ParcelOperation::Lw)),
+        ("c.sw", Mnemonic::Parcel(ParcelOperation::Sw)),
+        ("c.addiw", Mnemonic::Parcel(ParcelOperation::Addiw)),
+        ("c.subw", Mnemonic::Parcel(ParcelOperation::Subw)),
+        ("c.addw", Mnemonic::Parcel(ParcelOperation::Addw)),
+    ],
+    &[
+        ("auipc", Mnemonic::Upper(UpperOperation::Auipc)),
+        ("srl", Mnemonic::Registers(RegisterOperation::Srl)),
+    ],
+    &[],
+    &[
+        ("snez", Mnemonic::Unary(UnaryOperation::Snez)),
+        ("bnez", Mnemonic::ZeroBranch(ZeroBranchOperation::Bnez)),
+        ("la", Mnemonic::La),
+        ("c.beqz", Mnemonic::Parcel(ParcelOperation::Beqz)),
+        ("c.bnez", Mnemonic::Parcel(ParcelOperation::Bnez)),
+    ],
+    &[],
+    &[],
+    &[("mulh", Mnemonic::Registers(RegisterOperation::Mulh))],
+    &[
+        ("lui", Mnemonic::Upper(UpperOperation::Lui)),
+        ("lb", Mnemonic::Load(LoadOperation::Lb)),
+        ("sb", Mnemonic::Store(StoreOperation::Sb)),
+        ("or", Mnemonic::Registers(RegisterOperation::Or)),
+        ("jr", Mnemonic::Jr),
+    ],
+    &[],
+    &[],
+    &[("mul", Mnemonic::Registers(RegisterOperation::Mul))],
+    &[],
+    &[
+        ("srliw", Mnemonic::Shift(ShiftOperation::Srliw)),
+        ("sraiw", Mnemonic::Shift(ShiftOperation::Sraiw)),
+        ("srlw", Mnemonic::Registers(RegisterOperation::Srlw)),
+        ("sraw", Mnemonic::Registers(RegisterOperation::Sraw)),
+    ],
+    &[],
+    &[
+        ("jal", Mnemonic::Jal),
+        ("call", Mnemonic::Call),
+        ("tail", Mnemonic::Tail),
+        ("jump", Mnemonic::Jump),
+    ],
+    &[
+        ("ld", Mnemonic::Load(LoadOperation::Ld)),
+        ("sd", Mnemonic::Store(StoreOperation::Sd)),
+        ("add", Mnemonic::Registers(RegisterOperation::Add)),
+    ],
+    &[
+        ("ebreak", Mnemonic::Ebreak),
+        ("sext.b", Mnemonic::Unary(UnaryOperation::SextB)),
+        ("zext.b", Mnemonic::Unary(UnaryOperation::ZextB)),
+    ],
+    &[],
+    &[],
+    &[
+        ("fence", Mnemonic::Fence),
+        ("mulhsu", Mnemonic::Registers(RegisterOperation::Mulhsu)),
+        ("mulhu", Mnemonic::Registers(RegisterOperation::Mulhu)),
+    ],
+    &[
+        ("jalr", Mnemonic::Jalr),
+        ("addi", Mnemonic::Immediate(ImmediateOperation::Addi)),
+        ("ecall", Mnemonic::Ecall),
+    ],
+    &[
+        ("subw", Mnemonic::Registers(RegisterOperation::Subw)),
+        ("mulw", Mnemonic::Registers(RegisterOperation::Mulw)),
+        ("neg", Mnemonic::Unary(UnaryOperation::Neg)),
+    ],
+    &[
+        ("sext.h", Mnemonic::Unary(UnaryOperation::SextH)),
+        ("zext.h", Mnemonic::Unary(UnaryOperation::ZextH)),
+    ],
+    &[("mv", Mnemonic::Unary(UnaryOperation::Mv))],
+    &[],
+    &[
+        ("bge", Mnemonic::Branch(BranchOperation::Bge)),
+        ("lwu", Mnemonic::Load(LoadOperation::Lwu)),
+    ],
+    &[("lbu", Mnemonic::Load(LoadOperation::Lbu))],
+    &[
+        ("lw", Mnemonic::Load(LoadOperation::Lw)),
+        ("sw", Mnemonic::Store(StoreOperation::Sw)),
+        ("rem", Mnemonic::Registers(RegisterOperation::Rem)),
+    ],
+    &[],
+    &[("fence.tso", Mnemonic::FenceTso)],
+    &[],
+    &[
+        ("beq", Mnemonic::Branch(BranchOperation::Beq)),
+        ("lh", Mnemonic::Load(LoadOperation::Lh)),
+        ("sh", Mnemonic::Store(StoreOperation::Sh)),
+    ],
+    &[],
+    &[],
+    &[
+        ("addiw", Mnemonic::Immediate(ImmediateOperation::Addiw)),
+        ("addw", Mnemonic::Registers(RegisterOperation::Addw)),
+        ("ret", Mnemonic::Ret),
+    ],
+    &[
+        ("remu", Mnemonic::Registers(RegisterOperation::Remu)),
+        ("li", Mnemonic::Li),
+    ],
+    &[("lla", Mnemonic::La)],
+    &[
+        ("remw", Mnemonic::Registers(RegisterOperation::Remw)),
+        ("remuw", Mnemonic::Registers(RegisterOperation::Remuw)),
+        ("negw", Mnemonic::Unary(UnaryOperation::Negw)),
+        ("sext.w", Mnemonic::Unary(UnaryOperation::SextW)),
+        ("zext.w", Mnemonic::Unary(UnaryOperation::ZextW)),
+    ],
+    &[],
+    &[],
+    &[
+        ("seqz", Mnemonic::Unary(UnaryOperation::Seqz)),
+        ("sgt", Mnemonic::Compare(CompareOperation::Sgt)),
+        ("beqz", Mnemonic::ZeroBranch(ZeroBranchOperation::Beqz)),
+        ("bgt", Mnemonic::SwappedBranch(SwappedBranchOperation::Bgt)),
+        ("ble", Mnemonic::SwappedBranch(SwappedBranchOperation::Ble)),
+    ],
+    &[
+        ("bgeu", Mnemonic::Branch(BranchOperation::Bgeu)),
+        ("sgtu", Mnemonic::Compare(CompareOperation::Sgtu)),
+        (
+            "bgtu",
+            Mnemonic::SwappedBranch(SwappedBranchOperation::Bgtu),
+        ),
+        ("j", Mnemonic::J),
+    ],
+    &[],
+    &[("c.sub", Mnemonic::Parcel(ParcelOperation::Sub))],
+    &[
+        ("lhu", Mnemonic::Load(LoadOperation::Lhu)),
+        ("slti", Mnemonic::Immediate(ImmediateOperation::Slti)),
+        ("slli", Mnemonic::Shift(ShiftOperation::Slli)),
+    ],
+    &[
+        ("and", Mnemonic::Registers(RegisterOperation::And)),
+        ("c.ld", Mnemonic::Parcel(ParcelOperation::Ld)),
+        ("c.sd", Mnemonic::Parcel(ParcelOperation::Sd)),
+        ("c.and", Mnemonic::Parcel(ParcelOperation::And)),
+        ("c.add", Mnemonic::Parcel(ParcelOperation::Add)),
+    ],
+    &[
+        ("bne", Mnemonic::Branch(BranchOperation::Bne)),
+        ("sgtz", Mnemonic::Unary(UnaryOperation::Sgtz)),
+        ("bgez", Mnemonic::ZeroBranch(ZeroBranchOperation::Bgez)),
+        ("bgtz", Mnemonic::ZeroBranch(ZeroBranchOperation::Bgtz)),
+    ],
+    &[
+        ("sll", Mnemonic::Registers(RegisterOperation::Sll)),
+        ("divu", Mnemonic::Registers(RegisterOperation::Divu)),
+    ],
+    &[("div", Mnemonic::Registers(RegisterOperation::Div))],
+    &[
+        ("divw", Mnemonic::Registers(RegisterOperation::Divw)),
+        ("divuw", Mnemonic::Registers(RegisterOperation::Divuw)),
+    ],
+    &[
+        ("andi", Mnemonic::Immediate(ImmediateOperation::Andi)),
+        ("c.addi", Mnemonic::Parcel(ParcelOperation::Addi)),
+        ("c.li", Mnemonic::Parcel(ParcelOperation::Li)),
+        ("c.lui", Mnemonic::Parcel(ParcelOperation::Lui)),
+        ("c.srli", Mnemonic::Parcel(ParcelOperation::Srli)),
+        ("c.srai", Mnemonic::Parcel(ParcelOperation::Srai)),
+        ("c.andi", Mnemonic::Parcel(ParcelOperation::Andi)),
+        ("c.slli", Mnemonic::Parcel(ParcelOperation::Slli)),
+    ],
+    &[("c.j", Mnemonic::Parcel(ParcelOperation::J))],
+    &[("c.ebreak", Mnemonic::Parcel(ParcelOperation::Ebreak))],
+    &[("xori", Mnemonic::Immediate(ImmediateOperation::Xori))],
+    &[("sra", Mnemonic::Registers(RegisterOperation::Sra))],
+    &[
+        ("blt", Mnemonic::Branch(BranchOperation::Blt)),
+        ("slt", Mnemonic::Registers(RegisterOperation::Slt)),
+        ("c.addi4spn", Mnemonic::Parcel(ParcelOperation::Addi4spn)),
+    ],
+    &[
+        ("bltu", Mnemonic::Branch(BranchOperation::Bltu)),
+        ("sltiu", Mnemonic::Immediate(ImmediateOperation::Sltiu)),
+        ("sltu", Mnemonic::Registers(RegisterOperation::Sltu)),
+        (
+            "bleu",
+            Mnemonic::SwappedBranch(SwappedBranchOperation::Bleu),
+        ),
+    ],
+    &[
+        ("c.nop", Mnemonic::Parcel(ParcelOperation::Nop)),
+        ("c.addi16sp", Mnemonic::Parcel(ParcelOperation::Addi16sp)),
+        ("c.lwsp", Mnemonic::Parcel(ParcelOperation::Lwsp)),
+        ("c.ldsp", Mnemonic::Parcel(ParcelOperation::Ldsp)),
+        ("c.swsp", Mnemonic::Parcel(ParcelOperation::Swsp)),
+        ("c.sdsp", Mnemonic::Parcel(ParcelOperation::Sdsp)),
+    ],
+    &[
+        ("slliw", Mnemonic::Shift(ShiftOperation::Slliw)),
+        ("sllw", Mnemonic::Registers(RegisterOperation::Sllw)),
+    ],
+    &[
+        ("c.xor", Mnemonic::Parcel(ParcelOperation::Xor)),
+        ("c.or", Mnemonic::Parcel(ParcelOperation::Or)),
+        ("c.jr", Mnemonic::Parcel(ParcelOperation::Jr)),
+        ("c.jalr", Mnemonic::Parcel(ParcelOperation::Jalr)),
+    ],
+    &[("nop", Mnemonic::Nop)],
+    &[
+        ("sltz", Mnemonic::Unary(UnaryOperation::Sltz)),
+        ("bltz", Mnemonic::ZeroBranch(ZeroBranchOperation::Bltz)),
+        ("blez", Mnemonic::ZeroBranch(ZeroBranchOperation::Blez)),
+    ],
+    &[
+        ("ori", Mnemonic::Immediate(ImmediateOperation::Ori)),
+        ("srli", Mnemonic::Shift(ShiftOperation::Srli)),
+        ("srai", Mnemonic::Shift(ShiftOperation::Srai)),
+        ("xor", Mnemonic::Registers(RegisterOperation::Xor)),
+    ],
 ];
 
 /// The atomics that have a second source.
@@ -429,23 +484,47 @@ fn atomic_named(word: &[u8]) -> Option<Mnemonic>
     }
 }
 
-/// The mnemonic but the atomics that the word is: a look-up among the names of its length.
+/// The second byte of a word, and 0 where it has none.
+fn second(word: &[u8]) -> u8
+    ensures { result ≡ second word.now }
+{
+    match word {
+        [_, second, ..] => *second,
+        _ => 0,
+    }
+}
+
+/// The last byte of a word, and 0 where it has none.
+fn last_byte(word: &[u8]) -> u8
+    ensures { result ≡ last_byte word.now }
+{
+    match word {
+        [.., last] => *last,
+        [] => 0,
+    }
+}
+
+/// What the list of this index has for a word.
+fn mnemonic_at(lists: &[&[(&str, Mnemonic)]], index: usize, word: &[u8]) -> Option<Mnemonic>
+    requires { index < length lists.now }
+    ensures { result ≡ named_in (slice_index_or (map named_rows lists.now) index []) word.now }
+{
+    named_in(lists[index], word)
+}
+
+/// The index of the list of a mnemonic.
+fn instruction_place(word: &[u8]) -> usize
+    ensures place { result ≡ (second word.now * 3 + last_byte word.now) % 64 }
+    ensures within { result < 64 }
+{
+    (usize::from(second(word)) * 3 + usize::from(last_byte(word))) % 64
+}
+
+/// The mnemonic but the atomics that the word is: a look-up in its list.
 fn instruction_named(word: &[u8]) -> Option<Mnemonic>
     ensures { result ≡ named_in instruction_words word.now }
 {
-    match word.len() {
-        1 => named_in(&OF_ONE, word),
-        2 => named_in(&OF_TWO, word),
-        3 => named_in(&OF_THREE, word),
-        4 => named_in(&OF_FOUR, word),
-        5 => named_in(&OF_FIVE, word),
-        6 => named_in(&OF_SIX, word),
-        7 => named_in(&OF_SEVEN, word),
-        8 => named_in(&OF_EIGHT, word),
-        9 => named_in(&OF_NINE, word),
-        10 => named_in(&OF_TEN, word),
-        _ => None,
-    }
+    mnemonic_at(&INSTRUCTIONS, instruction_place(word), word)
 }
 
 /// The mnemonic that the word is; none begins as directives do.
@@ -480,7 +559,7 @@ pub fn function_named(word: &[u8]) -> Option<Function>
 
 /// The directives, by the last five bits of the byte behind their point: a letter's place in the alphabet, with `2`,
 /// `4` and `8` beside `r`, `t` and `x`.
-const DIRECTIVES: [&[(&str, DirectiveWord)]; 32] = [
+static DIRECTIVES: [&[(&str, DirectiveWord)]; 32] = [
     &[],
     &[
         (".align", DirectiveWord::AlignToPower),
@@ -574,18 +653,12 @@ fn frame_directive(word: &[u8]) -> Option<DirectiveWord>
     }
 }
 
-/// The second byte of a word, and 0 where it has none.
-fn second(word: &[u8]) -> u8
-    ensures { result ≡ second word.now }
-{
-    match word {
-        [_, second, ..] => *second,
-        _ => 0,
-    }
-}
-
 /// What the list of this index has for a word.
-fn named_at(lists: &[&[(&str, DirectiveWord)]], index: usize, word: &[u8]) -> Option<DirectiveWord>
+fn directive_at(
+    lists: &[&[(&str, DirectiveWord)]],
+    index: usize,
+    word: &[u8],
+) -> Option<DirectiveWord>
     requires { index < length lists.now }
     ensures { result ≡ named_in (slice_index_or (map named_rows lists.now) index []) word.now }
 {
@@ -596,7 +669,7 @@ fn named_at(lists: &[&[(&str, DirectiveWord)]], index: usize, word: &[u8]) -> Op
 fn listed_directive(word: &[u8]) -> Option<DirectiveWord>
     ensures { result ≡ named_in directive_words word.now }
 {
-    named_at(&DIRECTIVES, usize::from(second(word) % 32), word)
+    directive_at(&DIRECTIVES, usize::from(second(word) % 32), word)
 }
 
 /// The directive that the word is.

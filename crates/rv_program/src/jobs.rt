@@ -5,7 +5,9 @@
 //! a small guest takes few pages of it.
 
 use rv_batch_jobs::answer_calls;
-use rv_build_jobs::{assemble, build_files, link_files, load_program, print_map, run};
+use rv_build_jobs::{
+    assemble, build_files, link_files, load_program, print_map, run, run_on_board,
+};
 use rv_case_jobs::run_cases;
 use rv_command_line::completions;
 use rv_file_jobs::{code, dump, elf, names, objdump, raw, sizes, write_image};
@@ -20,6 +22,7 @@ use rv_watched_jobs::{run_with_results, stats, trace};
 pub(crate) fn run_job<S: Guests>(system: &mut S, job: &Job<'_>) -> Result<u8, JobError> {
     match job {
         Job::Run(asked) => run(system, asked),
+        Job::RunOnBoard(asked) => run_on_board(system, asked),
         Job::Watch(asked, results) => look_back(system, asked, results),
         Job::Trace(asked, shown) => show_steps(system, asked, shown),
         Job::Stats(asked, coverage) => count(system, asked, coverage),

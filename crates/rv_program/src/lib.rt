@@ -5,7 +5,7 @@
 //!
 //! Main function: `exit_status`. What it prints, and when, is tested; the status of an error is said by `report`
 //! (`specs/Status`). What the words mean is known to `rv_command_line`, and what a job does to the crates of jobs. Of the
-//! system it knows only what this trait has: `rv_host` has the real one, and a test stands in for it.
+//! system it knows only what this trait has: `rv_cli` has the real one, and a test stands in for it.
 //!
 //! ```text
 //! let mut host = Host { rt: &rt };

@@ -1,7 +1,7 @@
 //! Each call, from what is given to what is shown.
 
 use crate::error::Failed;
-use crate::given::Given;
+use crate::given::{Call, Given};
 use crate::library::{
     built, image_in, linked, listing, map_in, map_text, object_file, object_in, raw_listing,
     written,
@@ -14,18 +14,17 @@ use std::alloc::Global;
 /// Makes the call that is asked for, and shows what it answers.
 pub(crate) fn answer(rt: &HostRuntime, given: &Given<'_>) -> Result<(), Failed> {
     match given.call {
-        b"build" => build_sources(rt, given),
-        b"link_objects" => link_files(rt, given),
-        b"run_exec" => run_file(rt, given),
-        b"run_io" => run_over_streams(rt, given),
-        b"step" => step_machine(rt, given),
-        b"listing" => list(rt, given),
-        b"raw_listing" => list_raw(rt, given),
-        b"read_object" => read_object(rt, given),
-        b"write_object" => write_object(rt, given),
-        b"read_map" => read_map(rt, given),
-        b"write_map" => write_map(rt, given),
-        _ => Err(Failed::NoAnswer),
+        Call::Build => build_sources(rt, given),
+        Call::LinkObjects => link_files(rt, given),
+        Call::RunExec => run_file(rt, given),
+        Call::RunIo => run_over_streams(rt, given),
+        Call::Step => step_machine(rt, given),
+        Call::Listing => list(rt, given),
+        Call::RawListing => list_raw(rt, given),
+        Call::ReadObject => read_object(rt, given),
+        Call::WriteObject => write_object(rt, given),
+        Call::ReadMap => read_map(rt, given),
+        Call::WriteMap => write_map(rt, given),
     }
 }
 

@@ -10,7 +10,7 @@ use rv_image::{Image, load};
 use rv_machine::Machine;
 use rv_map::Map;
 use rv_memory::Paged;
-use rv_object::Object;
+use rv_object_types::Object;
 use std::alloc::Global;
 
 /// With collection, which the commands of ./rv are tried without: the sources here have nothing that it drops.
@@ -36,11 +36,11 @@ pub(crate) fn object_file(alloc: Global, source: &[u8]) -> Result<Vec<u8>, Faile
 }
 
 pub(crate) fn object_in<'a>(alloc: Global, file: &'a [u8]) -> Result<Object<'a>, Failed> {
-    Ok(rv_object::read(alloc, file)?)
+    Ok(rv_object_reader::read(alloc, file)?)
 }
 
 pub(crate) fn written(alloc: Global, object: &Object<'_>) -> Result<Vec<u8>, Failed> {
-    Ok(rv_object::write(alloc, object)?)
+    Ok(rv_object_writer::write(alloc, object)?)
 }
 
 pub(crate) fn linked(alloc: Global, objects: &[&[u8]]) -> Result<Built, Failed> {

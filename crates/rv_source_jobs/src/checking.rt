@@ -22,11 +22,20 @@ pub fn check_files<S: System>(
     let alloc: Global = system.alloc();
     let read = files_bytes(system, names)?;
     let sources = borrowed(alloc, read.as_slice())?;
-    let report = match check(alloc, names, sources.as_slice(), options) {
-        Ok(report) => report,
-        Err(fault) => return Err(fault_line(alloc, &fault, names)?),
-    };
-    let text = report_text(alloc, &report, names, format)?;
+    match check(alloc, names, sources.as_slice(), options) {
+        Ok(report) => print_report(system, &report, names, format),
+        Err(fault) => Err(fault_line(alloc, &fault, names)?),
+    }
+}
+
+/// Prints what is said of sources; the exit status.
+fn print_report<S: System>(
+    system: &mut S,
+    report: &Report,
+    names: &[&str],
+    format: ReportFormat,
+) -> Result<u8, JobError> {
+    let text = report_text(system.alloc(), report, names, format)?;
     print(system, text.as_bytes())?;
     Ok(if report.first.is_some() { FAULTY } else { 0 })
 }

@@ -3,7 +3,7 @@
 use rv_fault::{Fault, SourceFault};
 use rv_fault_texts::Remark;
 use rv_json::{number_or_null, text_or_null};
-use serde_json::{Value, json};
+use serde_json::{Map, Value, put};
 use std::alloc::{AllocError, Global};
 
 /// A fault's code, as `E14`, its name, and the place where it stands, as far as they are known.
@@ -25,6 +25,23 @@ pub(crate) fn put_line_of_compilers(
     remark: &Remark,
 ) -> Result<(), AllocError> {
     let heading = heading_of(alloc, names, fault, remark)?;
+    put_heading(
+        alloc,
+        text,
+        &heading,
+        severity(fault),
+        message(&heading, remark),
+    )
+}
+
+/// Adds the line of a heading, how grave it is and what is said of it.
+fn put_heading(
+    alloc: Global,
+    text: &mut String,
+    heading: &Heading<'_>,
+    severity: &str,
+    message: &str,
+) -> Result<(), AllocError> {
     text.push_str(heading.file.unwrap_or("rv"))?;
     if let Some(line) = heading.line {
         put_number(alloc, text, line)?;
@@ -33,9 +50,9 @@ pub(crate) fn put_line_of_compilers(
         put_number(alloc, text, column)?;
     }
     text.push_str(": ")?;
-    text.push_str(severity(fault))?;
+    text.push_str(severity)?;
     text.push_str(": ")?;
-    text.push_str(message(&heading, remark))?;
+    text.push_str(message)?;
     if let Some(code) = &heading.code {
         text.push_str(" [")?;
         text.push_str(code.as_str())?;
@@ -71,20 +88,30 @@ pub fn finding_value(
     remark: &Remark,
 ) -> Result<Value, AllocError> {
     let heading = heading_of(alloc, names, fault, remark)?;
-    let file = text_or_null(alloc, heading.file)?;
-    let code = text_or_null(alloc, heading.code.as_deref())?;
-    let line = number_or_null(alloc, heading.line)?;
-    let column = number_or_null(alloc, heading.column)?;
-    let severity = severity(fault);
     let message = message(&heading, remark);
-    json!(in alloc; {
-        "file": file,
-        "line": line,
-        "column": column,
-        "severity": severity,
-        "code": code,
-        "message": message
-    })
+    let mut finding = Map::new(alloc);
+    put_finding(alloc, &mut finding, &heading, severity(fault), message)?;
+    Ok(Value::Object(finding))
+}
+
+/// Adds a heading, how grave it is and what is said of it.
+fn put_finding(
+    alloc: Global,
+    finding: &mut Map<String, Value>,
+    heading: &Heading<'_>,
+    severity: &str,
+    message: &str,
+) -> Result<(), AllocError> {
+    put(finding, alloc, "file", text_or_null(alloc, heading.file)?)?;
+    put(finding, alloc, "line", number_or_null(alloc, heading.line)?)?;
+    let column = number_or_null(alloc, heading.column)?;
+    put(finding, alloc, "column", column)?;
+    let severity = Value::try_from_str(alloc, severity)?;
+    put(finding, alloc, "severity", severity)?;
+    let code = text_or_null(alloc, heading.code.as_deref())?;
+    put(finding, alloc, "code", code)?;
+    let message = Value::try_from_str(alloc, message)?;
+    put(finding, alloc, "message", message)
 }
 
 /// How grave a finding is.

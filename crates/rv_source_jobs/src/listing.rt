@@ -4,9 +4,8 @@ use rv_chain::{GroundOptions, build_on};
 use rv_image::Image;
 use rv_list::{ROWS, Source, SourceLines};
 use rv_map::Map;
-use rv_paint::has_escape;
 use rv_system::{
-    JobError, System, borrowed, fault_line, files_bytes, image_in, map_in, print_parts,
+    JobError, System, borrowed, fault_line, files_bytes, has_escape, image_in, map_in, print_parts,
 };
 use std::alloc::{AllocError, Global};
 

@@ -183,11 +183,31 @@ pub(crate) fn own_symbols<'a>(
     ensures low { IfOk result (λ _. (laid : List LaidStatement) → IsSource source.now laid
         → (i : ℕ) (s : LaidStatement) → slice_get laid i ≡ Some s → s.offset < 2 ^ 64) }
 {
+    let mut room = Statements::room();
+    own_symbols_by(alloc, source, meant, &mut room)
+}
+
+/// The same, where each statement is read into the room.
+fn own_symbols_by<'a>(
+    alloc: Global,
+    source: &Source<'_, 'a>,
+    meant: &[bool],
+    room: &mut Statement<'a>,
+) -> Result<Vec<Symbol<'a>>, AllocError>
+    requires marks { length meant.now ≡ length (said (source.now).unit.now) }
+    requires names { HasNames (said (source.now).unit.now) }
+    ensures few { IfOk result (λ x. length x.items ≤ 3 * length meant.now) }
+    ensures symbols { IfOk result (λ x. (laid : List LaidStatement) → IsSource source.now laid
+        → AreMarks (tables_of source.now) (references (tables_of source.now) laid) meant.now
+        (length meant.now)
+        → map symbol_of x.items ≡ own_in (tables_of source.now) laid) }
+    ensures low { IfOk result (λ _. (laid : List LaidStatement) → IsSource source.now laid
+        → (i : ℕ) (s : LaidStatement) → slice_get laid i ≡ Some s → s.offset < 2 ^ 64) }
+{
     let statements = source.unit.statements();
     let mut symbols = Vec::new(alloc);
     let mut exported = Vec::new(alloc);
     let mut seen = HashSet::new(alloc);
-    let mut room = Statements::room();
     for i in 0..statements.len() {
         put_both(
             &mut symbols,
@@ -195,7 +215,7 @@ pub(crate) fn own_symbols<'a>(
             &mut seen,
             source,
             i,
-            statements.read(i, &mut room),
+            statements.read(i, room),
             meant[i],
         )?;
     }

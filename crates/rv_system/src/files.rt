@@ -2,13 +2,13 @@
 
 use crate::error::JobError;
 use crate::messages::fault_line;
+use crate::painting::painted;
 use crate::system::{FILE_LIMIT, Purpose, System};
 use crate::whole::ReadFault;
 use rv_disasm::fits;
 use rv_fault::Fault;
 use rv_image::{Image, load};
 use rv_map::{Map, read};
-use rv_paint::painted;
 use std::alloc::{AllocError, Global};
 use std::io::ErrorKind;
 

@@ -1,13 +1,13 @@
 //! The counts of a run as programs read them.
 
 use crate::ending::Ending;
-use crate::json_report::{file, near};
+use crate::json_report::{file, line_of, put_near};
 use crate::lines::{Covered, coverage};
 use crate::places::Places;
 use crate::summary::{calls, mnemonics};
-use rv_counts::{Counts, Totals};
-use rv_json::{number, number_or_null, put_line};
-use serde_json::{Map, Value, json, push, put};
+use rv_counts::{CallCount, Counts, Totals};
+use rv_json::{number, number_or_null};
+use serde_json::{Map, Value, push, put};
 use std::alloc::{AllocError, Global};
 
 /// What a run did, as an object of JSON in a line: what [`counts_text`](crate::counts_text) says, and how the run ended; with
@@ -19,28 +19,40 @@ pub fn counts_json(
     ending: Ending,
     lines: bool,
 ) -> Result<Vec<u8>, AllocError> {
-    let mut object = totals(alloc, counts)?;
-    let end = Value::try_from_str(alloc, ending.name())?;
-    put(&mut object, alloc, "end", end)?;
-    let status = number_or_null(alloc, ending.status())?;
-    put(&mut object, alloc, "status", status)?;
-    let kinds = kinds(alloc, &counts.totals())?;
-    put(&mut object, alloc, "kinds", kinds)?;
-    let mnemonics = executions(alloc, counts)?;
-    put(&mut object, alloc, "mnemonics", mnemonics)?;
-    let calls = called(alloc, counts, places)?;
-    put(&mut object, alloc, "calls", calls)?;
-    if lines {
-        let lines = covered(alloc, counts, places)?;
-        put(&mut object, alloc, "lines", lines)?;
-    }
-    let mut text = Vec::new(alloc);
-    put_line(alloc, &mut text, &Value::Object(object))?;
-    Ok(text)
+    let mut object = Map::new(alloc);
+    put_counts(alloc, &mut object, counts, places, ending, lines)?;
+    line_of(alloc, object)
 }
 
-/// An object of the sums.
-fn totals(alloc: Global, counts: &Counts) -> Result<Map<String, Value>, AllocError> {
+/// Adds what a run did and how it ended.
+fn put_counts(
+    alloc: Global,
+    object: &mut Map<String, Value>,
+    counts: &Counts,
+    places: &Places<'_>,
+    ending: Ending,
+    lines: bool,
+) -> Result<(), AllocError> {
+    put_totals(alloc, object, counts)?;
+    let end = Value::try_from_str(alloc, ending.name())?;
+    put(object, alloc, "end", end)?;
+    let status = number_or_null(alloc, ending.status())?;
+    put(object, alloc, "status", status)?;
+    put(object, alloc, "kinds", kinds(alloc, &counts.totals())?)?;
+    put(object, alloc, "mnemonics", executions(alloc, counts)?)?;
+    put(object, alloc, "calls", called(alloc, counts, places)?)?;
+    if lines {
+        put(object, alloc, "lines", covered(alloc, counts, places)?)?;
+    }
+    Ok(())
+}
+
+/// Adds the sums.
+fn put_totals(
+    alloc: Global,
+    object: &mut Map<String, Value>,
+    counts: &Counts,
+) -> Result<(), AllocError> {
     let totals = counts.totals();
     let branches = counts.branches();
     let members = [
@@ -54,20 +66,17 @@ fn totals(alloc: Global, counts: &Counts) -> Result<Map<String, Value>, AllocErr
         ("branches_not_taken", branches.untaken()),
         ("deepest_stack", counts.deepest()),
     ];
-    let mut object = Map::new(alloc);
     for (name, count) in members {
-        let count = number(alloc, count)?;
-        put(&mut object, alloc, name, count)?;
+        put(object, alloc, name, number(alloc, count)?)?;
     }
-    Ok(object)
+    Ok(())
 }
 
 /// How many instructions of each kind were executed.
 fn kinds(alloc: Global, totals: &Totals) -> Result<Value, AllocError> {
     let mut object = Map::new(alloc);
     for (name, count) in totals.kinds.named() {
-        let count = number(alloc, count)?;
-        put(&mut object, alloc, name, count)?;
+        put(&mut object, alloc, name, number(alloc, count)?)?;
     }
     Ok(Value::Object(object))
 }
@@ -86,34 +95,55 @@ fn executions(alloc: Global, counts: &Counts) -> Result<Value, AllocError> {
 fn called(alloc: Global, counts: &Counts, places: &Places<'_>) -> Result<Value, AllocError> {
     let mut list = Vec::new(alloc);
     for called in &calls(alloc, counts)? {
-        let (symbol, distance) = near(alloc, places, called.address)?;
-        let address = number(alloc, called.address)?;
-        let count = number(alloc, called.count)?;
-        let function = json!(in alloc; {
-            "address": address,
-            "symbol": symbol,
-            "distance": distance,
-            "count": count
-        })?;
-        push(&mut list, function)?;
+        push(&mut list, function(alloc, places, called)?)?;
     }
     Ok(Value::Array(list))
+}
+
+/// A function and how often it was called.
+fn function(alloc: Global, places: &Places<'_>, called: &CallCount) -> Result<Value, AllocError> {
+    let mut function = Map::new(alloc);
+    put_function(alloc, &mut function, places, called)?;
+    Ok(Value::Object(function))
+}
+
+/// Adds the address of a function, its symbol, and how often it was called.
+fn put_function(
+    alloc: Global,
+    function: &mut Map<String, Value>,
+    places: &Places<'_>,
+    called: &CallCount,
+) -> Result<(), AllocError> {
+    put(function, alloc, "address", number(alloc, called.address)?)?;
+    put_near(alloc, function, places, called.address)?;
+    put(function, alloc, "count", number(alloc, called.count)?)
 }
 
 /// The statements and how often each was executed.
 fn covered(alloc: Global, counts: &Counts, places: &Places<'_>) -> Result<Value, AllocError> {
     let mut list = Vec::new(alloc);
     for statement in &coverage(alloc, counts, places)? {
-        let value = executed(alloc, places, statement)?;
-        push(&mut list, value)?;
+        push(&mut list, executed(alloc, places, statement)?)?;
     }
     Ok(Value::Array(list))
 }
 
 /// A statement and how often it was executed.
 fn executed(alloc: Global, places: &Places<'_>, statement: &Covered) -> Result<Value, AllocError> {
+    let mut executed = Map::new(alloc);
+    put_executed(alloc, &mut executed, places, statement)?;
+    Ok(Value::Object(executed))
+}
+
+/// Adds the file and the line of a statement, and how often it was executed.
+fn put_executed(
+    alloc: Global,
+    executed: &mut Map<String, Value>,
+    places: &Places<'_>,
+    statement: &Covered,
+) -> Result<(), AllocError> {
     let file = file(alloc, places, statement.row.file)?;
-    let line = number(alloc, statement.row.line)?;
-    let count = number(alloc, statement.count)?;
-    json!(in alloc; { "file": file, "line": line, "count": count })
+    put(executed, alloc, "file", file)?;
+    put(executed, alloc, "line", number(alloc, statement.row.line)?)?;
+    put(executed, alloc, "count", number(alloc, statement.count)?)
 }

@@ -5,14 +5,15 @@ ghost use Rattle.rv_counts.specs.Totals.{totals_of};
 
 use crate::digest::memory_digest;
 use crate::ending::Ending;
+use crate::json_report::{line_of, put_end};
 use crate::moved::add_span;
 use crate::report::{Latest, Segments};
 use rv_counts::Totals;
 use rv_isa::Reg;
-use rv_json::{number, number_or_null, put_line};
+use rv_json::number;
 use rv_machine::{Event, Look, ShowFault, Watched, Watcher};
 use rv_memory::Memory;
-use serde_json::{Map, Value, json, put};
+use serde_json::{Map, Value, put};
 use sha2::{Digest, Sha256};
 use std::alloc::{AllocError, Global};
 
@@ -69,32 +70,35 @@ pub fn state_text<M: Memory>(
     segments: &Segments,
     ending: Ending,
 ) -> Result<Vec<u8>, AllocError> {
+    let mut state = Map::new(alloc);
+    put_state(alloc, &mut state, machine, last, segments, ending)?;
+    line_of(alloc, state)
+}
+
+/// Adds the members of a last state.
+fn put_state<M: Memory>(
+    alloc: Global,
+    state: &mut Map<String, Value>,
+    machine: &Watched<M>,
+    last: Last,
+    segments: &Segments,
+    ending: Ending,
+) -> Result<(), AllocError> {
     let Last {
         totals,
         console,
         ..
     } = last;
-    let memory = hex::encode(alloc, memory_digest(alloc, machine.memory(), segments)?)?;
-    let console = hex::encode(alloc, console.finalize())?;
-    let end = ending.name();
-    let status = number_or_null(alloc, ending.status())?;
-    let address = number_or_null(alloc, ending.address())?;
-    let pc = number(alloc, machine.pc())?;
+    put_end(alloc, state, ending)?;
+    put(state, alloc, "pc", number(alloc, machine.pc())?)?;
+    put(state, alloc, "registers", registers(alloc, machine)?)?;
     let instructions = number(alloc, totals.executed)?;
-    let registers = registers(alloc, machine)?;
-    let state = json!(in alloc; {
-        "end": end,
-        "status": status,
-        "address": address,
-        "pc": pc,
-        "registers": registers,
-        "instructions": instructions,
-        "memory": memory,
-        "console": console
-    })?;
-    let mut text = Vec::new(alloc);
-    put_line(alloc, &mut text, &state)?;
-    Ok(text)
+    put(state, alloc, "instructions", instructions)?;
+    let digest = memory_digest(alloc, machine.memory(), segments)?;
+    let memory = Value::from(hex::encode(alloc, digest)?);
+    put(state, alloc, "memory", memory)?;
+    let console = Value::from(hex::encode(alloc, console.finalize())?);
+    put(state, alloc, "console", console)
 }
 
 /// The registers by their names.

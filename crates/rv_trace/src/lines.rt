@@ -24,24 +24,33 @@ pub fn lines_text(
 ) -> Result<Vec<u8>, AllocError> {
     let covered = coverage(alloc, counts, places)?;
     let mut text = Vec::new(alloc);
+    put_lines(&mut text, covered.as_slice(), places)?;
+    Ok(text)
+}
+
+/// Adds the lines of statements, and how many were never executed.
+fn put_lines(
+    text: &mut Vec<u8>,
+    covered: &[Covered],
+    places: &Places<'_>,
+) -> Result<(), AllocError> {
     let mut never: u64 = 0;
-    for statement in &covered {
-        put_file(&mut text, places, statement.row.file)?;
+    for statement in covered {
+        put_file(text, places, statement.row.file)?;
         text.push(b':')?;
-        put_decimal(&mut text, statement.row.line)?;
+        put_decimal(text, statement.row.line)?;
         text.push(b' ')?;
-        put_decimal(&mut text, statement.count)?;
+        put_decimal(text, statement.count)?;
         text.push(b'\n')?;
         if statement.count == 0 {
             never = never.saturating_add(1);
         }
     }
-    put(&mut text, "never executed ")?;
-    put_decimal(&mut text, never)?;
-    put(&mut text, " of ")?;
-    put_decimal(&mut text, covered.len() as u64)?;
-    put(&mut text, " statements\n")?;
-    Ok(text)
+    put(text, "never executed ")?;
+    put_decimal(text, never)?;
+    put(text, " of ")?;
+    put_decimal(text, covered.len() as u64)?;
+    put(text, " statements\n")
 }
 
 /// The lines as a tracefile of lcov, which `genhtml` draws. A line with several statements was executed as often as the one
@@ -52,33 +61,44 @@ pub fn lcov_text(
     places: &Places<'_>,
 ) -> Result<Vec<u8>, AllocError> {
     let covered = coverage(alloc, counts, places)?;
+    let lines = most_of_lines(alloc, covered.as_slice())?;
     let mut text = Vec::new(alloc);
-    put(&mut text, "TN:\n")?;
+    put_tracefile(&mut text, lines.as_slice(), places)?;
+    Ok(text)
+}
+
+/// Adds the records of lines, file by file.
+fn put_tracefile(
+    text: &mut Vec<u8>,
+    lines: &[Covered],
+    places: &Places<'_>,
+) -> Result<(), AllocError> {
+    put(text, "TN:\n")?;
     let mut file = 0;
     let mut found: u64 = 0;
     let mut hit: u64 = 0;
-    for line in &most_of_lines(alloc, covered.as_slice())? {
+    for line in lines {
         if line.row.file != file {
             if file != 0 {
-                put_end(&mut text, found, hit)?;
+                put_end(text, found, hit)?;
             }
-            put(&mut text, "SF:")?;
-            put_file(&mut text, places, line.row.file)?;
+            put(text, "SF:")?;
+            put_file(text, places, line.row.file)?;
             text.push(b'\n')?;
             file = line.row.file;
             found = 0;
             hit = 0;
         }
-        put_data(&mut text, line)?;
+        put_data(text, line)?;
         found = found.saturating_add(1);
         if line.count > 0 {
             hit = hit.saturating_add(1);
         }
     }
     if file != 0 {
-        put_end(&mut text, found, hit)?;
+        put_end(text, found, hit)?;
     }
-    Ok(text)
+    Ok(())
 }
 
 /// Adds the record of a line: `DA:LINE,COUNT`.

@@ -9,7 +9,7 @@ use rv_fault::{Fault, SourceFault};
 use rv_map::Map;
 use rv_map_laws::{Region, Row};
 use rv_parse::parse_compact;
-use rv_statement::{StatementKind, Statements};
+use rv_statement::{Statement, StatementKind, Statements};
 use std::alloc::{AllocError, Global};
 
 /// A source: its name, as the words of the command line have it, and its text.
@@ -186,11 +186,24 @@ impl<'a> Places<'a> {
         text: &'a [u8],
     ) -> Result<(), SourceFault> {
         let statements = parse_compact(alloc, text)?;
+        // a statement's long drop is repeated at each way out of its owner, so its owner has one
+        let mut room = Statements::room();
+        self.add_labels_of(alloc, map, file, &statements, &mut room)
+    }
+
+    /// Adds the labels of statements, each of which is read into the room.
+    fn add_labels_of(
+        &mut self,
+        alloc: Global,
+        map: &Map,
+        file: u64,
+        statements: &Statements<'a>,
+        room: &mut Statement<'a>,
+    ) -> Result<(), SourceFault> {
         let mut waiting: Vec<&'a [u8]> = Vec::new(alloc);
         let mut ordinal: u64 = 0;
-        let mut room = Statements::room();
         for index in 0..statements.len() {
-            let statement = statements.read(index, &mut room);
+            let statement = statements.read(index, room);
             ordinal = ordinal.saturating_add(1);
             self.add_label(map, &statement.kind, (file, ordinal), &mut waiting)?;
         }

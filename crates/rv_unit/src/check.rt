@@ -28,7 +28,7 @@ use crate::section::Section;
 use crate::section_offset::SectionOffset;
 use crate::unit::Unit;
 use rv_expression::{Expr, SourceCode};
-use rv_statement::{Setting, StatementKind, Statements};
+use rv_statement::{Setting, Statement, StatementKind};
 use rv_statement_laws::{Choice, Width};
 
 /// The depth of the option stack after a statement.
@@ -335,16 +335,16 @@ impl<'a> Unit<'a> {
     }
 
     /// The first fault of the statements, with its line: a label's, a directive's, or that of an instruction outside code.
-    pub(crate) fn first_fault(&self) -> Option<(SourceCode, u32)>
+    /// Each is read into the room.
+    pub(crate) fn first_fault(&self, room: &mut Statement<'a>) -> Option<(SourceCode, u32)>
         ensures { option_map fault_of result ≡ faults.first_unit_fault (said self.now) }
     {
         let statements = self.statements();
         let places = self.places();
         let mut labels: usize = 0;
         let mut depth: usize = 0;
-        let mut room = Statements::room();
         for index in 0..statements.len() {
-            let statement = statements.read(index, &mut room);
+            let statement = statements.read(index, room);
             let place = places[index];
             match self.fault(ordinal_of(index), place, labels, depth, &statement.kind) {
                 Some(code) => return Some((code, statement.line)),

@@ -30,7 +30,7 @@ use crate::section::Section;
 use crate::section_offset::SectionOffset;
 use crate::tables::{Assignment, Tables};
 use rv_expression::{Expr, SourceFault, Symbol, SymbolMeaning, Value};
-use rv_statement::{Opening, Setting, StatementKind, Statements};
+use rv_statement::{Opening, Setting, Statement, StatementKind, Statements};
 use std::alloc::{AllocError, Global};
 
 /// Whether a statement enters a section.
@@ -289,15 +289,18 @@ impl<'a> Tables<'a> {
         }
     }
 
-    /// The bindings of names after all statements.
-    fn bind_names(&mut self, statements: &Statements<'a>) -> Result<(), AllocError>
+    /// The bindings of names after all statements, each of which is read into the room.
+    fn bind_names(
+        &mut self,
+        statements: &Statements<'a>,
+        room: &mut Statement<'a>,
+    ) -> Result<(), AllocError>
         ensures tables { OnOk result (tables_of self.new
             ≡ laws.bound_tables (statements_of statements.now) (tables_of self.old)) }
         ensures indexed { OnOk result (IsIndexed self.old → IsIndexed self.new) }
     {
-        let mut room = Statements::room();
         for index in 0..statements.len() {
-            let statement = statements.read(index, &mut room);
+            let statement = statements.read(index, room);
             self.bind_by(&statement.kind)?;
         }
         Ok(())
@@ -308,6 +311,7 @@ impl<'a> Tables<'a> {
         &mut self,
         alloc: Global,
         statements: &Statements<'a>,
+        room: &mut Statement<'a>,
     ) -> Result<Filled, AllocError>
         requires { length (statements_of statements.now) ≤ most_statements }
         ensures tables { OnOk result
@@ -329,9 +333,8 @@ impl<'a> Tables<'a> {
     {
         let mut places = Vec::with_capacity(alloc, statements.len())?;
         let mut options = Vec::with_capacity(alloc, statements.len())?;
-        let mut room = Statements::room();
         for index in 0..statements.len() {
-            let statement = statements.read(index, &mut room);
+            let statement = statements.read(index, room);
             options.push(self.options)?;
             let place = self.stand(index as u32 + 1, &statement.kind)?;
             places.push(place)?;
@@ -340,7 +343,12 @@ impl<'a> Tables<'a> {
     }
 
     /// What all statements change from the start on, and where each stands, in which options.
-    pub fn fill(&mut self, alloc: Global, statements: &Statements<'a>) -> Result<Filled, AllocError>
+    pub fn fill(
+        &mut self,
+        alloc: Global,
+        statements: &Statements<'a>,
+        room: &mut Statement<'a>,
+    ) -> Result<Filled, AllocError>
         requires { length (statements_of statements.now) ≤ most_statements }
         ensures tables { OnOk result
             (tables_of self.old ≡ laws.at_start [] → IsIndexed self.old →
@@ -355,7 +363,7 @@ impl<'a> Tables<'a> {
             → map options_of filled.options.items
             ≡ laws.all_options (statements_of statements.now)) }
     {
-        self.bind_names(statements)?;
-        self.stand_all(alloc, statements)
+        self.bind_names(statements, room)?;
+        self.stand_all(alloc, statements, room)
     }
 }

@@ -20,6 +20,7 @@ ghost use Rattle.rv_unit_laws.proofs.BeforeLemmas.{IsBefore};
 ghost use Rattle.rv_unit.specs.Sections.{offset_of};
 ghost use Rattle.rv_unit.specs.Tables.{tables_of, IsIndexed};
 ghost use Rattle.rv_unit.specs.Unit.{said, passed, IsApart, IsFilled, comes_after};
+ghost use Rattle.rv_unit.specs.declared.names.Question.TheVariants.{Whole, Early, Past};
 
 use crate::section_offset::SectionOffset;
 use crate::unit::Unit;
@@ -36,6 +37,14 @@ fn comes_after(symbol: Symbol<'_>) -> bool
         Symbol::Here => false,
         Symbol::Reference(reference) => reference.is_forward(),
     }
+}
+
+/// Which of the three questions is asked.
+#[derive(Clone, Copy, Drop)]
+enum Question {
+    Whole,
+    Early,
+    Past,
 }
 
 impl<'a> Unit<'a> {
@@ -97,11 +106,7 @@ impl<'a> Unit<'a> {
         if let Some(name) = self.placed_name(expression) {
             return Ok(Value::Symbolic(Symbol::Name(name), 0));
         }
-        symbolic_value(
-            expression,
-            line,
-            &|symbol| { self.meaning(ordinal, place, symbol) },
-        )
+        self.answer(Question::Whole, ordinal, place, expression, line)
     }
 
     /// What a name means.
@@ -235,11 +240,7 @@ impl<'a> Unit<'a> {
             (laws.value_by_tables (laws.tables (said self.now)) false o (offset_of place)
             (tree_of_expr expression.now)) }
     {
-        symbolic_value(
-            expression,
-            0,
-            &|symbol| { self.early_meaning(ordinal, place, symbol) },
-        )
+        self.answer(Question::Early, ordinal, place, expression, 0)
     }
 
     /// What a name means by what is defined before.
@@ -368,10 +369,67 @@ impl<'a> Unit<'a> {
             (laws.value_by_tables (passed (said self.now) index) false (index + 1) (offset_of place)
             (tree_of_expr expression.now)) }
     {
+        self.answer(Question::Past, ordinal, place, expression, 0)
+    }
+
+    /// What a symbol means in that statement, as is asked.
+    fn told(
+        &self,
+        question: Question,
+        ordinal: u32,
+        place: SectionOffset,
+        symbol: Symbol<'_>,
+    ) -> SymbolMeaning
+        ensures whole { question ≡ Whole → (o : ℕ) → IsFilled self.now → ordinal ≡ o →
+            meaning_of result
+            ≡ laws.meaning (laws.tables (said self.now)) true o (offset_of place)
+            (symbol_of symbol.entry) }
+        ensures early { question ≡ Early → (o : ℕ) → IsFilled self.now → ordinal ≡ o →
+            meaning_of result
+            ≡ laws.meaning (laws.tables (said self.now)) false o (offset_of place)
+            (symbol_of symbol.entry) }
+        ensures past { question ≡ Past → (index : ℕ) → IsFilled self.now →
+            index ≤ length (said self.now) → ordinal ≡ index + 1 →
+            place.section < length (laws.opened_of (passed (said self.now) index)).sections
+            → meaning_of result
+            ≡ laws.meaning (passed (said self.now) index) false (index + 1) (offset_of place)
+            (symbol_of symbol.entry) }
+    {
+        match question {
+            Question::Whole => self.meaning(ordinal, place, symbol),
+            Question::Early => self.early_meaning(ordinal, place, symbol),
+            Question::Past => self.past_meaning(ordinal, place, symbol),
+        }
+    }
+
+    /// The value of an expression of that statement, as is asked; a fault has this line.
+    fn answer<'e>(
+        &self,
+        question: Question,
+        ordinal: u32,
+        place: SectionOffset,
+        expression: &Expr<'e>,
+        line: u32,
+    ) -> Result<Value<'e>, SourceFault>
+        ensures whole { question ≡ Whole → (o : ℕ) → IsFilled self.now → ordinal ≡ o →
+            IsOutcome result line
+            (laws.value_by_tables (laws.tables (said self.now)) true o (offset_of place)
+            (tree_of_expr expression.now)) }
+        ensures early { question ≡ Early → (o : ℕ) → IsFilled self.now → ordinal ≡ o →
+            IsOutcome result line
+            (laws.value_by_tables (laws.tables (said self.now)) false o (offset_of place)
+            (tree_of_expr expression.now)) }
+        ensures past { question ≡ Past → (index : ℕ) → IsFilled self.now →
+            index ≤ length (said self.now) → ordinal ≡ index + 1 →
+            place.section < length (laws.opened_of (passed (said self.now) index)).sections
+            → IsOutcome result line
+            (laws.value_by_tables (passed (said self.now) index) false (index + 1) (offset_of place)
+            (tree_of_expr expression.now)) }
+    {
         symbolic_value(
             expression,
-            0,
-            &|symbol| { self.past_meaning(ordinal, place, symbol) },
+            line,
+            &|symbol| { self.told(question, ordinal, place, symbol) },
         )
     }
 }

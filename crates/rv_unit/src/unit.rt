@@ -34,7 +34,7 @@ pub struct Unit<'a> {
 }
 
 /// The line of the first statement that is too many.
-fn line_past_most(statements: &Statements<'_>) -> Option<u32>
+fn line_past_most<'a>(statements: &Statements<'a>, room: &mut Statement<'a>) -> Option<u32>
     ensures past { IfSome result
         (λ line. first_unit_fault (statements_of statements.now)
         ≡ Some (record { code = limit; line = line })) }
@@ -43,8 +43,7 @@ fn line_past_most(statements: &Statements<'_>) -> Option<u32>
     if statements.len() <= MOST_STATEMENTS {
         return None;
     }
-    let mut room = Statements::room();
-    Some(statements.read(MOST_STATEMENTS, &mut room).line)
+    Some(statements.read(MOST_STATEMENTS, room).line)
 }
 
 /// The line of the first statement of a plain list that is too many.
@@ -88,26 +87,45 @@ impl<'a> Unit<'a> {
         ensures refuses { IfErr result
             (λ e. NamesFirst e (statements_of statements.entry)) }
     {
-        if let Some(line) = line_past_most(&statements) {
+        let mut room = Statements::room();
+        Unit::read(alloc, statements, &mut room)
+    }
+
+    /// The same; in each pass the statements that a list doesn't hold whole are made again in the room.
+    fn read(
+        alloc: Global,
+        statements: Statements<'a>,
+        room: &mut Statement<'a>,
+    ) -> Result<Unit<'a>, SourceFault>
+        ensures same { IfOk result (λ u. u.statements ≡ statements.entry) }
+        ensures good { IfOk result (λ u. first_unit_fault (said u) ≡ None) }
+        ensures refuses { IfErr result
+            (λ e. NamesFirst e (statements_of statements.entry)) }
+    {
+        if let Some(line) = line_past_most(&statements, room) {
             return Err(SourceFault::At {
                 code: SourceCode::Limit,
                 line,
             });
         }
-        let unit = Unit::fill(alloc, statements)?;
-        match unit.first_fault() {
+        let unit = Unit::fill(alloc, statements, room)?;
+        match unit.first_fault(room) {
             None => Ok(unit),
             Some((code, line)) => Err(SourceFault::At { code, line }),
         }
     }
 
     /// The statements with their offsets, their sections and their names.
-    fn fill(alloc: Global, statements: Statements<'a>) -> Result<Unit<'a>, AllocError>
+    fn fill(
+        alloc: Global,
+        statements: Statements<'a>,
+        room: &mut Statement<'a>,
+    ) -> Result<Unit<'a>, AllocError>
         requires { length (statements_of statements) ≤ most_statements }
         ensures same { IfOk result (λ u. u.statements ≡ statements.entry) }
     {
         let mut tables = Tables::new(alloc)?;
-        let filled = tables.fill(alloc, &statements)?;
+        let filled = tables.fill(alloc, &statements, room)?;
         Ok(Unit {
             statements,
             places: filled.places,

@@ -4,7 +4,7 @@ use crate::effect::is_zero;
 use crate::facts::Facts;
 use crate::registers::{Held, Registers};
 use rv_isa::{LoadOperation, Reg, StoreOperation};
-use rv_statement::{Operation, Plain, StatementKind, Statements};
+use rv_statement::{Operation, Plain, Statement, StatementKind};
 use std::alloc::{AllocError, Global};
 
 /// An access whose address is known but for that of a label.
@@ -18,21 +18,25 @@ pub(crate) struct KnownAccess {
 }
 
 /// The loads and stores of several bytes at addresses that are known.
-pub(crate) fn known_accesses(
+pub(crate) fn known_accesses<'a>(
     alloc: Global,
-    facts: &Facts<'_>,
+    facts: &Facts<'a>,
+    room: &mut Statement<'a>,
 ) -> Result<Vec<KnownAccess>, AllocError> {
     let mut accesses = Vec::new(alloc);
-    put_accesses(facts, &mut accesses)?;
+    put_accesses(facts, room, &mut accesses)?;
     Ok(accesses)
 }
 
-fn put_accesses(facts: &Facts<'_>, accesses: &mut Vec<KnownAccess>) -> Result<(), AllocError> {
+fn put_accesses<'a>(
+    facts: &Facts<'a>,
+    room: &mut Statement<'a>,
+    accesses: &mut Vec<KnownAccess>,
+) -> Result<(), AllocError> {
     let mut registers = Registers::unknown();
-    let mut room = Statements::room();
     let statements = facts.unit.statements();
     for index in 0..statements.len() {
-        let statement = statements.read(index, &mut room);
+        let statement = statements.read(index, room);
         if let Some((width, held)) = access_of(facts, &registers, &statement.kind) {
             accesses.push(KnownAccess { index, held, width })?;
         }
@@ -47,17 +51,7 @@ fn access_of<'a>(
     registers: &Registers,
     kind: &StatementKind<'a>,
 ) -> Option<(u64, Held)> {
-    let (width, base, offset) = match kind {
-        StatementKind::Plain(plain) => {
-            let (width, base) = plain_access(*plain)?;
-            (width, base, 0)
-        }
-        StatementKind::With(operation, expression) => {
-            let (width, base) = access_with(*operation)?;
-            (width, base, facts.number(expression)?)
-        }
-        _ => return None,
-    };
+    let (width, base, offset) = operands_of(facts, kind)?;
     if width == 1 || is_zero(base) {
         return None;
     }
@@ -65,6 +59,21 @@ fn access_of<'a>(
         Held::Number(number) => Some((width, Held::Number(number.wrapping_add(offset)))),
         Held::Place(label, distance) => {
             Some((width, Held::Place(label, distance.wrapping_add(offset))))
+        }
+        _ => None,
+    }
+}
+
+/// The width of a load or a store, the register of its address, and the offset from that, where it is known.
+fn operands_of<'a>(facts: &Facts<'a>, kind: &StatementKind<'a>) -> Option<(u64, Reg, u64)> {
+    match kind {
+        StatementKind::Plain(plain) => {
+            let (width, base) = plain_access(*plain)?;
+            Some((width, base, 0))
+        }
+        StatementKind::With(operation, expression) => {
+            let (width, base) = access_with(*operation)?;
+            Some((width, base, facts.number(expression)?))
         }
         _ => None,
     }

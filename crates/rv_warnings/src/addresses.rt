@@ -5,17 +5,19 @@ use crate::facts::Facts;
 use crate::registers::Held;
 use crate::warning::{Doubt, Warning, put};
 use rv_map::{Map, read};
+use rv_statement::Statement;
 use std::alloc::{AllocError, Global};
 
 /// Adds the accesses of a source, by the index of its file, that are off a multiple of their width in the program of a map.
-pub(crate) fn put_misaligned(
+pub(crate) fn put_misaligned<'a>(
     alloc: Global,
-    facts: &Facts<'_>,
+    facts: &Facts<'a>,
     file: usize,
     map: &[u8],
+    room: &mut Statement<'a>,
     found: &mut Vec<Warning>,
 ) -> Result<(), AllocError> {
-    let accesses = known_accesses(alloc, facts)?;
+    let accesses = known_accesses(alloc, facts, room)?;
     // the rows of a map are read only where they are wanted
     if accesses.is_empty() {
         return Ok(());
@@ -23,8 +25,19 @@ pub(crate) fn put_misaligned(
     let Some(map) = read(alloc, map)? else {
         return Ok(());
     };
-    for access in &accesses {
-        if let Some(address) = address_of(facts, file, &map, access)
+    put_off(facts, file, &map, accesses.as_slice(), found)
+}
+
+/// Adds those of some accesses that are off a multiple of their width.
+fn put_off(
+    facts: &Facts<'_>,
+    file: usize,
+    map: &Map,
+    accesses: &[KnownAccess],
+    found: &mut Vec<Warning>,
+) -> Result<(), AllocError> {
+    for access in accesses {
+        if let Some(address) = address_of(facts, file, map, access)
             && is_off(address, access.width)
         {
             put(

@@ -5,7 +5,7 @@ use crate::facts::Facts;
 use crate::registers::{Held, Registers};
 use crate::warning::{Doubt, Warning, put};
 use rv_isa::Reg;
-use rv_statement::Statements;
+use rv_statement::Statement;
 use std::alloc::AllocError;
 
 /// The calls: a read, a write, and the exit.
@@ -17,17 +17,17 @@ const EXIT: u64 = 93;
 
 /// Adds the calls by a number, or of a file, that there is not; and the first whose number nothing sets. `sets_number` says
 /// whether some source of the program sets one.
-pub(crate) fn put_calls(
-    facts: &Facts<'_>,
+pub(crate) fn put_calls<'a>(
+    facts: &Facts<'a>,
     sets_number: bool,
+    room: &mut Statement<'a>,
     found: &mut Vec<Warning>,
 ) -> Result<(), AllocError> {
     let mut registers = Registers::unknown();
     let mut is_told = false;
-    let mut room = Statements::room();
     let statements = facts.unit.statements();
     for index in 0..statements.len() {
-        let statement = statements.read(index, &mut room);
+        let statement = statements.read(index, room);
         if matches!(flow_of(&statement.kind), Flow::Environment)
             && let Some(doubt) = doubt_of_call(&registers, sets_number)
         {
@@ -59,13 +59,21 @@ fn doubt_of_call(registers: &Registers, sets_number: bool) -> Option<Doubt> {
     if !sets_number || matches!(registers.held(call), Held::Start) {
         return Some(Doubt::NoNumber);
     }
-    let file = registers.number(Reg::from_low_bits(10));
-    match (registers.number(call)?, file) {
-        (EXIT, _) | (READ, Some(0)) | (WRITE, Some(1 | 2)) => None,
-        (number @ (READ | WRITE), Some(file)) => Some(Doubt::WrongFile(number, file)),
-        (READ | WRITE, None) => None,
-        (number, _) => Some(Doubt::UnknownCall(number)),
+    match registers.number(call)? {
+        EXIT => None,
+        READ => doubt_of_file(registers, READ, 0, 0),
+        WRITE => doubt_of_file(registers, WRITE, 1, 2),
+        number => Some(Doubt::UnknownCall(number)),
     }
+}
+
+/// That the file of a call by this number, where it is known, is none from one to another.
+fn doubt_of_file(registers: &Registers, number: u64, first: u64, last: u64) -> Option<Doubt> {
+    let file = registers.number(Reg::from_low_bits(10))?;
+    if first <= file && file <= last {
+        return None;
+    }
+    Some(Doubt::WrongFile(number, file))
 }
 
 /// Whether a call where the registers hold this ends the run.

@@ -7,13 +7,13 @@
 //! `longjmp` does, and owes nothing.
 
 use crate::calls::is_exit;
-use crate::effect::{Flow, flow_of, is_load, kept_by, operation_of, written_by};
+use crate::effect::{Flow, flow_of, is_instruction, is_load, kept_by, operation_of, written_by};
 use crate::facts::Facts;
 use crate::registers::Registers;
 use crate::warning::{Doubt, Warning, put};
 use crate::ways::{Ways, bit};
 use rv_isa::{ImmediateOperation, Reg};
-use rv_statement::{Operation, Plain, StatementKind, Statements};
+use rv_statement::{Operation, Plain, Statement, StatementKind};
 use std::alloc::{AllocError, Global};
 
 /// A function as far as it was looked at.
@@ -94,14 +94,31 @@ impl Function {
         if !self.owes || !self.returns || self.saves_by_call || self.switches_stack {
             return Ok(());
         }
+        self.put_lost(found)?;
+        self.put_unloaded(found)?;
+        self.put_shifted(found)
+    }
+
+    /// Adds the registers that it loses and does not save.
+    fn put_lost(&self, found: &mut Vec<Warning>) -> Result<(), AllocError> {
         for (register, index) in &self.lost {
             if !self.has_saved(*register) {
                 put(found, doubt_of(*register), *index)?;
             }
         }
+        Ok(())
+    }
+
+    /// Adds the registers that it does not load again.
+    fn put_unloaded(&self, found: &mut Vec<Warning>) -> Result<(), AllocError> {
         for (register, index) in &self.unloaded {
             put(found, Doubt::NotLoaded(*register), *index)?;
         }
+        Ok(())
+    }
+
+    /// Adds its returns where sp is not where it was.
+    fn put_shifted(&self, found: &mut Vec<Warning>) -> Result<(), AllocError> {
         for (distance, index) in &self.shifted {
             put(found, Doubt::StackShifted(*distance), *index)?;
         }
@@ -126,29 +143,40 @@ impl Function {
             if is_owed(register) && ways.lose(index, register) {
                 self.write(register, is_load(kind), index)?;
             }
-            if register.number() == Reg::SP.number() {
-                self.moved = moved_by(facts, self.moved, kind);
-                self.switches_stack = self.switches_stack || is_load(kind);
-            }
+            self.move_stack(facts, register, kind);
         }
         self.go(kind, index)
+    }
+
+    /// Notes where sp is, if that is the register that an instruction writes.
+    fn move_stack<'a>(&mut self, facts: &Facts<'a>, register: Reg, kind: &StatementKind<'a>) {
+        if register.number() == Reg::SP.number() {
+            self.moved = moved_by(facts, self.moved, kind);
+            self.switches_stack = self.switches_stack || is_load(kind);
+        }
     }
 
     /// Notes a register that an instruction saves, or loads as it was saved.
     fn save(&mut self, kind: &StatementKind<'_>, index: usize) -> Result<(), AllocError> {
         let is_at_stack = is_at_stack(kind);
-        if let Some(register) = kept_by(kind)
-            && (is_at_stack || !has(self.lost.as_slice(), register))
-        {
-            self.saved |= bit(register);
-            if is_at_stack && is_owed(register) && !has(self.stored.as_slice(), register) {
-                self.stored.push((register, index))?;
-            }
-        }
         if let Some(register) = written_by(kind)
             && is_at_stack
         {
             self.saved |= bit(register);
+        }
+        match kept_by(kind) {
+            Some(register) if is_at_stack || !has(self.lost.as_slice(), register) => {
+                self.keep(register, is_at_stack, index)
+            }
+            _ => Ok(()),
+        }
+    }
+
+    /// Notes a register that is kept, on the stack or elsewhere.
+    fn keep(&mut self, register: Reg, is_at_stack: bool, index: usize) -> Result<(), AllocError> {
+        self.saved |= bit(register);
+        if is_at_stack && is_owed(register) && !has(self.stored.as_slice(), register) {
+            self.stored.push((register, index))?;
         }
         Ok(())
     }
@@ -169,22 +197,24 @@ impl Function {
     /// Goes where an instruction goes.
     fn go(&mut self, kind: &StatementKind<'_>, index: usize) -> Result<(), AllocError> {
         let flow = flow_of(kind);
-        if matches!(flow, Flow::Return) {
-            self.returns = true;
-            self.put_shift(index)?;
-        }
+        let moved = self.moved;
         self.is_cut_off = matches!(flow, Flow::Jump | Flow::Return | Flow::Break);
         if self.is_cut_off {
             self.moved = None;
         }
         self.is_after_call = matches!(flow, Flow::Call);
         self.saves_by_call = self.saves_by_call || is_call_by_t0(kind);
-        Ok(())
+        if !matches!(flow, Flow::Return) {
+            return Ok(());
+        }
+        self.returns = true;
+        self.put_shift(moved, index)
     }
 
-    /// Notes a return where sp is below where it was; it is above where the function goes on with the frame of another part.
-    fn put_shift(&mut self, index: usize) -> Result<(), AllocError> {
-        if let Some(moved) = self.moved
+    /// Notes a return where sp, so far from where it was, is below that; it is above where the function goes on with the
+    /// frame of another part.
+    fn put_shift(&mut self, moved: Option<u64>, index: usize) -> Result<(), AllocError> {
+        if let Some(moved) = moved
             && moved.cast_signed() < 0
         {
             self.shifted.push((moved.wrapping_neg(), index))?;
@@ -209,18 +239,18 @@ fn place_of(registers: &[(Reg, usize)], register: Reg) -> Option<usize> {
 }
 
 /// Adds the registers that functions lose, and the calls where sp is no multiple of 16.
-pub(crate) fn put_conventions(
+pub(crate) fn put_conventions<'a>(
     alloc: Global,
-    facts: &Facts<'_>,
+    facts: &Facts<'a>,
+    room: &mut Statement<'a>,
     found: &mut Vec<Warning>,
 ) -> Result<(), AllocError> {
-    let ways = Ways::of(alloc, facts)?;
+    let ways = Ways::of(alloc, facts, room)?;
     let mut function = Function::new(alloc, 0);
     let mut registers = Registers::unknown();
-    let mut room = Statements::room();
     let statements = facts.unit.statements();
     for index in 0..statements.len() {
-        let statement = statements.read(index, &mut room);
+        let statement = statements.read(index, room);
         if let Some(section) = code_section(facts, index) {
             put_passed(
                 facts,
@@ -264,15 +294,24 @@ fn put_passed<'a>(
         function.finish(found)?;
         function.begin(section, !is_entry(facts, kind));
     }
-    if is_call_off(kind, function.moved) {
-        put(found, Doubt::StackOff, index)?;
+    if !is_instruction(kind) {
+        return Ok(());
     }
-    match kind {
-        StatementKind::Plain(_) | StatementKind::With(..) | StatementKind::WithFunction(..) => {
-            function.pass(facts, ways, kind, index)
-        }
-        _ => Ok(()),
+    put_off(kind, function.moved, index, found)?;
+    function.pass(facts, ways, kind, index)
+}
+
+/// Adds a call where sp, so far from where it was, is no multiple of 16.
+fn put_off(
+    kind: &StatementKind<'_>,
+    moved: Option<u64>,
+    index: usize,
+    found: &mut Vec<Warning>,
+) -> Result<(), AllocError> {
+    if is_call_off(kind, moved) {
+        return put(found, Doubt::StackOff, index);
     }
+    Ok(())
 }
 
 /// Whether a run begins at a statement.

@@ -4,16 +4,19 @@ use crate::effect::is_instruction;
 use crate::facts::Facts;
 use crate::warning::{Doubt, Warning, put};
 use rv_expression::Expr;
-use rv_statement::{Opening, StatementKind, Statements, Width};
+use rv_statement::{Opening, Statement, StatementKind, Width};
 use rv_unit::Section;
 use std::alloc::AllocError;
 
 /// Adds the numbers in data that have no room there.
-pub(crate) fn put_cut(facts: &Facts<'_>, found: &mut Vec<Warning>) -> Result<(), AllocError> {
-    let mut room = Statements::room();
+pub(crate) fn put_cut<'a>(
+    facts: &Facts<'a>,
+    room: &mut Statement<'a>,
+    found: &mut Vec<Warning>,
+) -> Result<(), AllocError> {
     let statements = facts.unit.statements();
     for index in 0..statements.len() {
-        let statement = statements.read(index, &mut room);
+        let statement = statements.read(index, room);
         if let Some(doubt) = cut_in(facts, &statement.kind) {
             put(found, doubt, index)?;
         }
@@ -56,12 +59,15 @@ fn cut_of<'a>(facts: &Facts<'a>, width: Width, expression: &Expr<'a>) -> Option<
 }
 
 /// Adds the sections whose bytes are not loaded, for want of flags.
-pub(crate) fn put_unloaded(facts: &Facts<'_>, found: &mut Vec<Warning>) -> Result<(), AllocError> {
+pub(crate) fn put_unloaded<'a>(
+    facts: &Facts<'a>,
+    room: &mut Statement<'a>,
+    found: &mut Vec<Warning>,
+) -> Result<(), AllocError> {
     let mut opened: Option<usize> = None;
-    let mut room = Statements::room();
     let statements = facts.unit.statements();
     for index in 0..statements.len() {
-        let statement = statements.read(index, &mut room);
+        let statement = statements.read(index, room);
         match &statement.kind {
             StatementKind::Enters(_) => opened = None,
             StatementKind::Opens(opening) => {

@@ -5,7 +5,7 @@ use crate::effect::{Flow, flow_of, is_instruction, name_in};
 use crate::facts::Facts;
 use crate::registers::Registers;
 use crate::warning::{Doubt, Warning, put};
-use rv_statement::{StatementKind, Statements};
+use rv_statement::{Statement, StatementKind};
 use std::alloc::{AllocError, Global};
 
 /// The latest instruction of a section.
@@ -20,17 +20,21 @@ struct Latest<'a> {
 
 /// Adds the instructions from which a run goes on into a function that is called, and the last ones of their sections from
 /// which it goes on.
-pub(crate) fn put_ends(
+pub(crate) fn put_ends<'a>(
     alloc: Global,
-    facts: &Facts<'_>,
+    facts: &Facts<'a>,
+    room: &mut Statement<'a>,
     found: &mut Vec<Warning>,
 ) -> Result<(), AllocError> {
-    let mut latest: Vec<Option<Latest<'_>>> = Vec::new(alloc);
-    for _ in facts.unit.sections() {
-        latest.push(None)?;
-    }
-    pass_all(facts, latest.as_mut_slice(), found)?;
-    for last in latest.as_slice() {
+    let none: Option<Latest<'a>> = None;
+    let mut latest = vec![in alloc; none; facts.unit.sections().len()]?;
+    pass_all(facts, room, latest.as_mut_slice(), found)?;
+    put_last(latest.as_slice(), found)
+}
+
+/// Adds the last instructions of sections from which a run goes on.
+fn put_last(latest: &[Option<Latest<'_>>], found: &mut Vec<Warning>) -> Result<(), AllocError> {
+    for last in latest {
         if let Some(last) = last
             && last.goes_on
         {
@@ -43,16 +47,16 @@ pub(crate) fn put_ends(
 /// Looks at all statements; afterwards the latest instruction of each section is its last.
 fn pass_all<'a>(
     facts: &Facts<'a>,
+    room: &mut Statement<'a>,
     latest: &mut [Option<Latest<'a>>],
     found: &mut Vec<Warning>,
 ) -> Result<(), AllocError> {
     let mut registers = Registers::unknown();
-    let mut room = Statements::room();
     // the index of a call behind which its own function stands, where that is not known to return
     let mut waiting: Option<usize> = None;
     let statements = facts.unit.statements();
     for index in 0..statements.len() {
-        let kind = &statements.read(index, &mut room).kind;
+        let kind = &statements.read(index, room).kind;
         if let Some(section) = facts.section(index)
             && facts.is_code(section)
             && let Some(last) = latest.get_mut(section as usize)
@@ -65,7 +69,7 @@ fn pass_all<'a>(
     Ok(())
 }
 
-/// Adds the latest instruction where a run goes on from it into this label of a function; the call that still waits.
+/// Adds what goes on into a function, where a statement shows that; the call that still waits.
 fn put_fall<'a>(
     facts: &Facts<'a>,
     registers: &Registers,
@@ -74,26 +78,46 @@ fn put_fall<'a>(
     waiting: Option<usize>,
     found: &mut Vec<Warning>,
 ) -> Result<Option<usize>, AllocError> {
-    if let Some(call) = waiting
-        && matches!(flow_of(kind), Flow::Return)
-    {
-        put(found, Doubt::FallsInto, call)?;
-        return Ok(None);
+    match kind {
+        StatementKind::Label(name) if facts.begins_function(name, false) => {
+            let before = *last;
+            *last = None;
+            put_entered(facts, name, before, found)
+        }
+        _ => put_returned(registers, kind, waiting, found),
     }
-    // (the function may be the one that ends the run)
-    if matches!(flow_of(kind), Flow::Environment) && !goes_on(registers) {
+}
+
+/// Adds the call that waits where its function returns; the call that still waits.
+fn put_returned(
+    registers: &Registers,
+    kind: &StatementKind<'_>,
+    waiting: Option<usize>,
+    found: &mut Vec<Warning>,
+) -> Result<Option<usize>, AllocError> {
+    let Some(call) = waiting else {
         return Ok(None);
-    }
-    let StatementKind::Label(name) = kind else {
-        return Ok(waiting);
     };
-    if !facts.begins_function(name, false) {
-        return Ok(waiting);
+    match flow_of(kind) {
+        Flow::Return => {
+            put(found, Doubt::FallsInto, call)?;
+            Ok(None)
+        }
+        // the function may be the one that ends the run
+        Flow::Environment if !goes_on(registers) => Ok(None),
+        _ => Ok(waiting),
     }
-    let before = *last;
-    *last = None;
-    match before {
-        Some(latest) if latest.callee == Some(*name) => Ok(Some(latest.index)),
+}
+
+/// Adds the latest instruction where a run goes on from it into the function of a name; the call that waits there.
+fn put_entered<'a>(
+    facts: &Facts<'a>,
+    name: &'a [u8],
+    latest: Option<Latest<'a>>,
+    found: &mut Vec<Warning>,
+) -> Result<Option<usize>, AllocError> {
+    match latest {
+        Some(latest) if latest.callee == Some(name) => Ok(Some(latest.index)),
         Some(latest) if latest.goes_on && facts.is_called(name) => {
             put(found, Doubt::FallsInto, latest.index)?;
             Ok(None)

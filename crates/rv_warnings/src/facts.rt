@@ -3,7 +3,7 @@
 use crate::effect::{Flow, flow_of, name_in, written_by};
 use rv_expression::{Expr, SourceFault};
 use rv_parse::parse_compact;
-use rv_statement::{Setting, StatementKind, Statements};
+use rv_statement::{Setting, Statement, StatementKind, Statements};
 use rv_unit::{Binding, Unit};
 use std::alloc::{AllocError, Global};
 use std::collections::{HashMap, HashSet};
@@ -32,7 +32,11 @@ struct Names<'a> {
 
 impl<'a> Names<'a> {
     /// Those of a source's statements.
-    fn of(alloc: Global, statements: &Statements<'a>) -> Result<Names<'a>, AllocError> {
+    fn of(
+        alloc: Global,
+        statements: &Statements<'a>,
+        room: &mut Statement<'a>,
+    ) -> Result<Names<'a>, AllocError> {
         let mut names = Names {
             labels: HashMap::new(alloc),
             constants: HashMap::new(alloc),
@@ -40,9 +44,8 @@ impl<'a> Names<'a> {
             jumped: HashSet::new(alloc),
             sets_number: false,
         };
-        let mut room = Statements::room();
         for index in 0..statements.len() {
-            names.put(index, &statements.read(index, &mut room).kind)?;
+            names.put(index, &statements.read(index, room).kind)?;
         }
         Ok(names)
     }
@@ -65,14 +68,18 @@ impl<'a> Names<'a> {
 }
 
 impl<'a> Facts<'a> {
-    /// Those of a source; none of one with a fault.
-    pub(crate) fn of(alloc: Global, source: &'a [u8]) -> Result<Option<Facts<'a>>, AllocError> {
+    /// Those of a source, whose statements are read into the room; none of one with a fault.
+    pub(crate) fn of(
+        alloc: Global,
+        source: &'a [u8],
+        room: &mut Statement<'a>,
+    ) -> Result<Option<Facts<'a>>, AllocError> {
         let unit = match unit_of(alloc, source) {
             Ok(unit) => unit,
             Err(SourceFault::OutOfMemory) => return Err(AllocError),
             Err(SourceFault::At { .. }) => return Ok(None),
         };
-        let names = Names::of(alloc, unit.statements())?;
+        let names = Names::of(alloc, unit.statements(), room)?;
         Ok(Some(Facts { unit, names }))
     }
 

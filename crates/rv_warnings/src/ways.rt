@@ -8,7 +8,7 @@ use crate::effect::{Flow, flow_of, is_instruction, is_load, name_in, reference_i
 use crate::facts::Facts;
 use crate::registers::Registers;
 use rv_isa::Reg;
-use rv_statement::{StatementKind, Statements};
+use rv_statement::{Statement, StatementKind};
 use std::alloc::{AllocError, Global};
 use std::collections::HashMap;
 
@@ -48,14 +48,15 @@ pub(crate) struct Ways {
 
 impl Ways {
     /// Those of a source.
-    pub(crate) fn of(alloc: Global, facts: &Facts<'_>) -> Result<Ways, AllocError> {
+    pub(crate) fn of<'a>(
+        alloc: Global,
+        facts: &Facts<'a>,
+        room: &mut Statement<'a>,
+    ) -> Result<Ways, AllocError> {
         let mut steps = Vec::new(alloc);
-        put_steps(alloc, facts, &mut steps)?;
-        link_steps(alloc, facts, steps.as_mut_slice())?;
-        let mut open = Vec::new(alloc);
-        for _ in steps.as_slice() {
-            open.push(0u32)?;
-        }
+        put_steps(alloc, facts, room, &mut steps)?;
+        link_steps(alloc, facts, room, steps.as_mut_slice())?;
+        let mut open = vec![in alloc; 0u32; steps.len()]?;
         for _ in 0..MOST_TURNS {
             if !follow(steps.as_slice(), open.as_mut_slice()) {
                 break;
@@ -88,14 +89,14 @@ fn number_of(index: usize) -> u32 {
 fn put_steps<'a>(
     alloc: Global,
     facts: &Facts<'a>,
+    room: &mut Statement<'a>,
     steps: &mut Vec<Step>,
 ) -> Result<(), AllocError> {
     let mut registers = Registers::unknown();
     let mut numbered: HashMap<&'a [u8], u32> = HashMap::new(alloc);
-    let mut room = Statements::room();
     let statements = facts.unit.statements();
     for index in 0..statements.len() {
-        let kind = &statements.read(index, &mut room).kind;
+        let kind = &statements.read(index, room).kind;
         if let StatementKind::Numbered(digits) = kind {
             numbered.insert(*digits, number_of(index))?;
         }
@@ -148,13 +149,17 @@ fn loaded_by(kind: &StatementKind<'_>) -> u32 {
 }
 
 /// Joins each step to the next one of its section and to the label ahead that has a number.
-fn link_steps<'a>(alloc: Global, facts: &Facts<'a>, steps: &mut [Step]) -> Result<(), AllocError> {
+fn link_steps<'a>(
+    alloc: Global,
+    facts: &Facts<'a>,
+    room: &mut Statement<'a>,
+    steps: &mut [Step],
+) -> Result<(), AllocError> {
     let mut behind = behind_all(alloc, facts)?;
     let mut numbered: HashMap<&'a [u8], u32> = HashMap::new(alloc);
-    let mut room = Statements::room();
     let statements = facts.unit.statements();
     for index in (0..statements.len()).rev() {
-        let kind = &statements.read(index, &mut room).kind;
+        let kind = &statements.read(index, room).kind;
         if let StatementKind::Numbered(digits) = kind {
             numbered.insert(*digits, number_of(index))?;
         }

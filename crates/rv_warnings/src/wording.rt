@@ -8,7 +8,7 @@ use crate::ends::put_ends;
 use crate::facts::Facts;
 use crate::warning::{Doubt, Warning};
 use rv_fault_texts::{Remark, statement_in_line};
-use rv_statement::{Statements, Width};
+use rv_statement::{Statement, Statements, Width};
 use std::alloc::{AllocError, Global};
 
 /// Adds the warnings of a source without a fault, by the index of its file, from 0, and the text of its program's map; at
@@ -22,67 +22,105 @@ pub fn put_warnings(
     most: usize,
     remarks: &mut Vec<Remark>,
 ) -> Result<(), AllocError> {
-    let Some(facts) = Facts::of(alloc, source)? else {
-        return Ok(());
+    let given = Given {
+        file,
+        source,
+        map,
+        is_alone,
     };
-    let found = warnings_of(alloc, &facts, file, map, is_alone)?;
+    // a statement's long drop is repeated at each way out of its owner, so its owner has one
+    let mut room = Statements::room();
+    put_warnings_of(alloc, &given, most, &mut room, remarks)
+}
+
+/// A source: the index of its file, its text, the text of its program's map, and whether the program has no other.
+#[derive(Clone, Copy, Drop)]
+struct Given<'a> {
+    file: usize,
+    source: &'a [u8],
+    map: &'a [u8],
+    is_alone: bool,
+}
+
+/// Adds the warnings of a source. All passes read its statements into the same room.
+fn put_warnings_of<'a>(
+    alloc: Global,
+    given: &Given<'a>,
+    most: usize,
+    room: &mut Statement<'a>,
+    remarks: &mut Vec<Remark>,
+) -> Result<(), AllocError> {
+    match Facts::of(alloc, given.source, room)? {
+        Some(facts) => put_remarks(alloc, given, &facts, most, room, remarks),
+        None => Ok(()),
+    }
+}
+
+/// Adds what is said of the warnings of a source.
+fn put_remarks<'a>(
+    alloc: Global,
+    given: &Given<'a>,
+    facts: &Facts<'a>,
+    most: usize,
+    room: &mut Statement<'a>,
+    remarks: &mut Vec<Remark>,
+) -> Result<(), AllocError> {
+    let mut found = Vec::new(alloc);
+    put_found(alloc, given, facts, room, &mut found)?;
     for warning in found.iter().take(most) {
-        if let Some(remark) = remark_of(alloc, file, source, &facts, warning)? {
+        if let Some(remark) = remark_of(alloc, given, facts, warning, room)? {
             remarks.push(remark)?;
         }
     }
     Ok(())
 }
 
-/// The warnings of a source, kind by kind.
-fn warnings_of(
+/// Adds the warnings of a source, kind by kind.
+fn put_found<'a>(
     alloc: Global,
-    facts: &Facts<'_>,
-    file: usize,
-    map: &[u8],
-    is_alone: bool,
-) -> Result<Vec<Warning>, AllocError> {
-    let mut found = Vec::new(alloc);
-    put_calls(facts, facts.sets_number() || !is_alone, &mut found)?;
-    put_conventions(alloc, facts, &mut found)?;
-    put_ends(alloc, facts, &mut found)?;
-    put_cut(facts, &mut found)?;
-    put_unloaded(facts, &mut found)?;
-    put_misaligned(alloc, facts, file, map, &mut found)?;
-    Ok(found)
+    given: &Given<'a>,
+    facts: &Facts<'a>,
+    room: &mut Statement<'a>,
+    found: &mut Vec<Warning>,
+) -> Result<(), AllocError> {
+    put_calls(facts, facts.sets_number() || !given.is_alone, room, found)?;
+    put_conventions(alloc, facts, room, found)?;
+    put_ends(alloc, facts, room, found)?;
+    put_cut(facts, room, found)?;
+    put_unloaded(facts, room, found)?;
+    put_misaligned(alloc, facts, given.file, given.map, room, found)
 }
 
 /// What is said of a warning, where its statement is found in its line.
-fn remark_of(
+fn remark_of<'a>(
     alloc: Global,
-    file: usize,
-    source: &[u8],
-    facts: &Facts<'_>,
+    given: &Given<'a>,
+    facts: &Facts<'a>,
     warning: &Warning,
+    room: &mut Statement<'a>,
 ) -> Result<Option<Remark>, AllocError> {
-    let Some((line, rank)) = line_of(facts, warning.index) else {
+    let Some((line, rank)) = line_of(facts, warning.index, room) else {
         return Ok(None);
     };
-    let Some(shown) = statement_in_line(alloc, source, line, rank)? else {
+    let Some(shown) = statement_in_line(alloc, given.source, line, rank)? else {
         return Ok(None);
     };
     let mut remark = Remark::new(alloc);
-    remark.show(file, source, line, shown)?;
+    remark.show(given.file, given.source, line, shown)?;
     put_doubt(alloc, &mut remark.sentence, warning.doubt)?;
     Ok(Some(remark))
 }
 
 /// The line of the statement at an index, and how many statements of the line stand before it.
-fn line_of(facts: &Facts<'_>, index: usize) -> Option<(u32, usize)> {
+fn line_of<'a>(facts: &Facts<'a>, index: usize, room: &mut Statement<'a>) -> Option<(u32, usize)> {
     let statements = facts.unit.statements();
     if statements.len() <= index {
         return None;
     }
-    let mut room = Statements::room();
-    let line = statements.read(index, &mut room).line;
+    let line = statements.read(index, room).line;
     let mut rank = 0usize;
     for before in (0..index).rev() {
-        if statements.read(before, &mut room).line != line {
+        if statements.read(before, room).line != line {
             break;
         }
         rank = rank.saturating_add(1);

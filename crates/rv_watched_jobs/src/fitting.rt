@@ -35,13 +35,24 @@ pub fn check_sources(
 /// Whether a text has a statement on the line of each row of a file.
 fn has_rows(alloc: Global, map: &Map, file: u64, text: &[u8]) -> Result<bool, SourceFault> {
     let statements = parse_compact(alloc, text)?;
+    // a statement's long drop is repeated at each way out of its owner, so its owner has one
     let mut room = Statements::room();
+    Ok(have_rows(map, file, &statements, &mut room))
+}
+
+/// Whether a statement stands on the line of each row of a file; each is read into the room.
+fn have_rows<'a>(
+    map: &Map,
+    file: u64,
+    statements: &Statements<'a>,
+    room: &mut Statement<'a>,
+) -> bool {
     for row in &map.rows {
-        if row.file == file && line_of(&statements, row.ordinal, &mut room) != Some(row.line) {
-            return Ok(false);
+        if row.file == file && line_of(statements, row.ordinal, room) != Some(row.line) {
+            return false;
         }
     }
-    Ok(true)
+    true
 }
 
 /// The line of a statement by its number, from 1.

@@ -63,23 +63,40 @@ pub fn run_with_results<S: Guests>(
     program: KnownSource,
     image: Image,
 ) -> Result<u8, JobError> {
+    let places = program.places(system.alloc(), asked)?;
+    run_known(system, asked, results, &places, image)
+}
+
+/// [`run_with_results`] with what is known of the program's addresses.
+fn run_known<S: Guests>(
+    system: &mut S,
+    asked: &Asked<'_>,
+    results: &Results<'_>,
+    places: &Places<'_>,
+    image: Image,
+) -> Result<u8, JobError> {
     let alloc: Global = system.alloc();
-    let places = program.places(alloc, asked)?;
-    let guest = Guest::of(alloc, asked, &places)?;
+    let guest = Guest::of(alloc, asked, places)?;
     let segments = Segments::of(alloc, &image)?;
     let mut last = Last::new();
     let mut machine = machine_of(alloc, image)?;
     let watched = guest.watch(system, &mut machine, &mut last, asked.limit);
     let ending = ended(alloc, watched, "-")?;
-    let report = report(
-        alloc,
-        results.report,
-        &machine,
-        &last,
-        (&places, &segments),
-        ending,
-    )?;
-    let state = state(alloc, results, &machine, last, &segments, ending)?;
+    put_results(system, results, &machine, last, (places, &segments), ending)
+}
+
+/// Tells how a run ended and what it left, as far as that is asked; the exit status.
+fn put_results<S: Guests>(
+    system: &mut S,
+    results: &Results<'_>,
+    machine: &Watched<Paged>,
+    last: Last,
+    known: (&Places<'_>, &Segments),
+    ending: Ending,
+) -> Result<u8, JobError> {
+    let alloc: Global = system.alloc();
+    let report = report(alloc, results.report, machine, &last, known, ending)?;
+    let state = state(alloc, results, machine, last, known.1, ending)?;
     let status = report_ending(system, ending, results.report);
     put_lines(system, report.as_slice())?;
     if let Some(name) = results.state {
@@ -142,15 +159,38 @@ pub fn stats<S: Guests>(
     program: KnownSource,
     image: Image,
 ) -> Result<u8, JobError> {
+    let places = program.places(system.alloc(), asked)?;
+    count_known(system, asked, coverage, &places, image)
+}
+
+/// [`stats`] with what is known of the program's addresses.
+fn count_known<S: Guests>(
+    system: &mut S,
+    asked: &Asked<'_>,
+    coverage: &Coverage<'_>,
+    places: &Places<'_>,
+    image: Image,
+) -> Result<u8, JobError> {
     let alloc: Global = system.alloc();
-    let places = program.places(alloc, asked)?;
-    let guest = Guest::of(alloc, asked, &places)?;
+    let guest = Guest::of(alloc, asked, places)?;
     let mut counts = Counts::new(alloc, &image)?;
     let mut machine = machine_of(alloc, image)?;
     let watched = guest.watch(system, &mut machine, &mut counts, asked.limit);
     let ending = ended(alloc, watched, "-")?;
-    let text = counted(alloc, &counts, &places, coverage, ending)?;
-    let tracefile = tracefile(alloc, &counts, &places, coverage)?;
+    put_counts(system, &counts, places, coverage, ending)
+}
+
+/// Tells the counts of a run; the exit status.
+fn put_counts<S: Guests>(
+    system: &mut S,
+    counts: &Counts,
+    places: &Places<'_>,
+    coverage: &Coverage<'_>,
+    ending: Ending,
+) -> Result<u8, JobError> {
+    let alloc: Global = system.alloc();
+    let text = counted(alloc, counts, places, coverage, ending)?;
+    let tracefile = tracefile(alloc, counts, places, coverage)?;
     let status = report_ending(system, ending, Some(coverage.format));
     put_lines(system, text.as_slice())?;
     if let Some(name) = coverage.lcov {
@@ -199,14 +239,25 @@ pub fn trace<S: Guests>(
     program: KnownSource,
     image: Image,
 ) -> Result<u8, JobError> {
+    let places = program.places(system.alloc(), asked)?;
+    trace_known(system, asked, shown, &places, image)
+}
+
+/// [`trace`] with what is known of the program's addresses.
+fn trace_known<S: Guests>(
+    system: &mut S,
+    asked: &Asked<'_>,
+    shown: &Shown<'_>,
+    places: &Places<'_>,
+    image: Image,
+) -> Result<u8, JobError> {
     let alloc: Global = system.alloc();
-    let places = program.places(alloc, asked)?;
-    let guest = Guest::of(alloc, asked, &places)?;
+    let guest = Guest::of(alloc, asked, places)?;
     let last = last_shown(shown);
     let limit = asked.limit.min(last);
     let traced = match shown.form {
-        LineForm::Whole => whole_lines(system, &guest, shown, image, (&places, limit))?,
-        LineForm::Plain => plain_lines(system, &guest, shown, image, (&places, limit))?,
+        LineForm::Whole => whole_lines(system, &guest, shown, image, (places, limit))?,
+        LineForm::Plain => plain_lines(system, &guest, shown, image, (places, limit))?,
         LineForm::Event => event_lines(system, &guest, shown, image, limit)?,
     };
     let name = shown.output.unwrap_or("-");

@@ -1,10 +1,10 @@
--- The plain bytes, then atom by atom.
+-- The plain bytes, then each atom and those behind it.
 use Rattle.std.proofs.Common.{◌==◌, ◌||◌, drop, sym, eq-eqb, ne_eqb, ◌∙◌, ap, arith}
 use Rattle.std.proofs.lemmas.List.Folds.{list_any-append}
 use Rattle.std.specs.List.{list_any}
 use Rattle.rv_lexer.specs.Token.{string_bytes}
 use Rattle.rv_lexer.proofs.InsideLemmas.{atom_within, string_more, string_none}
-use Rattle.rv_lexer.proofs.PlainBytesLemmas.{in_two}
+use Rattle.rv_lexer.proofs.PlainBytesLemmas.{in_two, atom_and_plain, any_behind}
 use Rattle.rv_lexer.proofs.strings.string_contains.Goals as goal
 
 pub returns-then-byte-wanted : goal.returns-then-byte-wanted
@@ -30,15 +30,27 @@ loop-byte-init c =
 pub split_at-requires-in-Some : goal.split_at-requires-in-Some
 split_at-requires-in-Some c = (atom_within c.loop-byte.rest.now c.in-Some.byte c.in-Some.length c.in-Some.ensures).1
 
+pub returns-then-has_byte-2 : goal.returns-then-has_byte-2
+returns-then-has_byte-2 c =
+    let plain = c.split_at-in-Some-2.result.0.now in
+    let behind = c.split_at-in-Some-2.result.1.now in
+    let whole = atom_and_plain c.loop-byte.rest.now _ plain behind _ _ _ c.in-Some.ensures c.split_at-in-Some.ensures.back c.plain_length-in-Some.ensures.count c.split_at-in-Some-2.ensures.front c.split_at-in-Some-2.ensures.back in
+    sym (any_behind c.args.wanted c.in-Some.byte c.loop-byte.rest.now plain behind whole (ne_eqb c.in-Some.byte c.args.wanted c.if-byte-wanted.false)
+    ∙ ap (λ b. b || list_any (λ byte. byte == c.args.wanted) (string_bytes behind)) (sym c.has_byte-in-Some.ensures ∙ c.if-has_byte-2.true))
+    ∙ c.loop-byte.invariant
+
 pub loop-byte-smaller : goal.loop-byte-smaller
 loop-byte-smaller c =
     let w = atom_within c.loop-byte.rest.now c.in-Some.byte c.in-Some.length c.in-Some.ensures in
-    omega (arith, w.0, w.1, c.split_at-in-Some.ensures.back_len)
+    omega (arith, w.0, w.1, c.split_at-in-Some.ensures.back_len, c.split_at-in-Some-2.ensures.back_len)
 
 pub loop-byte-preserved : goal.loop-byte-preserved
 loop-byte-preserved c =
-    ap (λ r. list_any (λ byte. byte == c.args.wanted) (string_bytes r)) c.split_at-in-Some.ensures.back
-    ∙ sym (ap (list_any (λ byte. byte == c.args.wanted)) (string_more c.loop-byte.rest.now c.in-Some.byte c.in-Some.length c.in-Some.ensures) ∙ ap (λ b. b || list_any (λ byte. byte == c.args.wanted) (string_bytes (drop c.in-Some.length c.loop-byte.rest.now))) (ne_eqb c.in-Some.byte c.args.wanted c.if-byte-wanted.false))
+    let plain = c.split_at-in-Some-2.result.0.now in
+    let behind = c.split_at-in-Some-2.result.1.now in
+    let whole = atom_and_plain c.loop-byte.rest.now _ plain behind _ _ _ c.in-Some.ensures c.split_at-in-Some.ensures.back c.plain_length-in-Some.ensures.count c.split_at-in-Some-2.ensures.front c.split_at-in-Some-2.ensures.back in
+    sym (any_behind c.args.wanted c.in-Some.byte c.loop-byte.rest.now plain behind whole (ne_eqb c.in-Some.byte c.args.wanted c.if-byte-wanted.false)
+    ∙ ap (λ b. b || list_any (λ byte. byte == c.args.wanted) (string_bytes behind)) (sym c.has_byte-in-Some.ensures ∙ c.if-has_byte-2.false))
     ∙ c.loop-byte.invariant
 
 pub returns : goal.returns

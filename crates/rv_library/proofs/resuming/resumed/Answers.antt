@@ -4,10 +4,10 @@ use Rattle.rv_image_laws.specs.Image.{Image}
 use Rattle.rv_image_laws.specs.Memory.{mem_of}
 use Rattle.rv_machine.specs.Hart.{hart_of}
 use Rattle.rv_memory.specs.HeldPages.{held_pages}
-use Rattle.rv_snapshots.specs.Keeps.{Keeps}
-use Rattle.rv_snapshots.specs.Snapshot.{state_in}
-use Rattle.rv_snapshots.specs.Views.{resumed_state}
-use Rattle.rv_snapshots.specs.declared.reading.Resumed.{Resumed}
+use Rattle.rv_states.specs.Keeps.{Keeps}
+use Rattle.rv_states.specs.Snapshot.{state_in}
+use Rattle.rv_states.specs.Views.{resumed_state}
+use Rattle.rv_states.specs.declared.snapshot_reading.Resumed.{Resumed}
 use Rattle.rv_library.specs.Resumed.{IsResumedFrom}
 use Rattle.rv_library.proofs.RunsLemmas.{resumed_of}
 use Rattle.rv_library.proofs.resuming.resumed.Goals as goal

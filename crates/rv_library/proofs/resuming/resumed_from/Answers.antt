@@ -6,7 +6,7 @@ use Rattle.rv_machine.specs.End.{law_end}
 use Rattle.rv_machine.specs.Hart.{hart_of}
 use Rattle.rv_memory.specs.HeldPages.{held_pages}
 use Rattle.rv_library.specs.Ran.{IsStop, IsStateLeft}
-use Rattle.rv_snapshots.specs.Snapshot.{state_in}
+use Rattle.rv_states.specs.Snapshot.{state_in}
 use Rattle.rv_library.proofs.RunsLemmas.{at_some}
 use Rattle.rv_library.proofs.resuming.resumed_from.Goals as goal
 

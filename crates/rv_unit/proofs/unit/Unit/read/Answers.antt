@@ -2,7 +2,7 @@ use Rattle.std.proofs.Common.{ap, sym, ◌∙◌, option_map}
 use Rattle.rv_statement.specs.Statements.{statements_of}
 use Rattle.rv_unit_laws.specs.Faults.{first_unit_fault}
 use Rattle.rv_unit.specs.Unit.{fault_of}
-use Rattle.rv_unit.proofs.unit.Unit.of.Goals as goal
+use Rattle.rv_unit.proofs.unit.Unit.read.Goals as goal
 
 pub returns-clause-refuses : goal.returns-clause-refuses
 returns-clause-refuses c =

@@ -18,7 +18,7 @@ use Rattle.rv_symbols.specs.Source.{tables_of, place_in}
 use Rattle.rv_symbols.specs.Found.{same_place, is_seen, any_means}
 use Rattle.rv_symbols.proofs.StandsLemmas.{ordinal_is, kind_at, laid_inside, laid_past, count_is, low_more}
 use Rattle.rv_symbols.proofs.NamingLemmas.{locals_more, seen_more, two_more}
-use Rattle.rv_symbols.proofs.own.own_symbols.Goals as goal
+use Rattle.rv_symbols.proofs.own.own_symbols_by.Goals as goal
 
 next_few : (now new i : ℕ) → now ≤ i → new ≤ now + 1 → new ≤ i + 1
 next_few now new i h k = omega (arith, h, k)

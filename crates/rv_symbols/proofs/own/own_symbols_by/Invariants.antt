@@ -6,7 +6,7 @@ use Rattle.rv_assemble_laws.specs.LaidStatements.{LaidStatement}
 use Rattle.rv_assemble_laws.specs.Symbols.{references, local_symbols, exports_of, exports}
 use Rattle.rv_symbols.specs.Source.{tables_of, IsSource}
 use Rattle.rv_symbols.specs.Found.{same_place, is_seen, AreMarks}
-use Rattle.rv_symbols.proofs.own.own_symbols.Given as goal
+use Rattle.rv_symbols.proofs.own.own_symbols_by.Given as goal
 
 -- two a statement at most, and one that other files can mean; the symbols so far, and those of the statements that are left, are all of them; the places that have one are seen; the offsets so far are low
 abbrev pub invariant-loop-i : goal.invariant-loop-i

@@ -19,7 +19,7 @@ use Rattle.rv_draft.proofs.SoFarLemmas.{sizes_count, sizes_short}
 use Rattle.rv_draft.proofs.StandingLemmas.{stated_length}
 use Rattle.rv_draft.proofs.WholeLemmas.{one_file}
 use Rattle.rv_draft.proofs.WidthsLemmas.{all_wide}
-use Rattle.rv_draft.proofs.draft.Draft.of.Goals as goal
+use Rattle.rv_draft.proofs.draft.Draft.read.Goals as goal
 
 pub code-requires-clause-least : goal.code-requires-clause-least
 code-requires-clause-least c =

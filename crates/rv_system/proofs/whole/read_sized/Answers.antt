@@ -3,12 +3,13 @@ use Rattle.std.specs.Io.KnownBytes.{Consumes}
 use Rattle.std.proofs.KnownBytes.{Consumes-nil}
 use Rattle.std.proofs.lemmas.List.{length-append}
 use Rattle.rv_system.proofs.PiecesLemmas.{front, has_room, read_nothing, read_more}
-use Rattle.rv_system.proofs.whole.read_whole.Goals as goal
+use Rattle.rv_system.proofs.whole.read_sized.Goals as goal
 
 pub loop-init : goal.loop-init
 loop-init g c =
     let rem = g.R.Read.remaining in
-    let none = c.new-all.ensures.items in
+    let none = c.in_ok-all.ensures.items in
+    let some = c.piece_size.ensures in
     let long = c.in_ok-piece.ensures.len in
     let whole = c.in_ok-piece.piece.ok.0 in
     record {

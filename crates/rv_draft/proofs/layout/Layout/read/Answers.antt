@@ -3,7 +3,7 @@ use Rattle.rv_sizes.specs.Passes.{IsInput}
 use Rattle.rv_unit.specs.Unit.{said}
 use Rattle.rv_draft.proofs.InputLemmas.{measured_input}
 use Rattle.rv_draft.proofs.SeenLemmas.{measured_count, measured_least, measured_lengths, measured_rounds}
-use Rattle.rv_draft.proofs.layout.Layout.of.Goals as goal
+use Rattle.rv_draft.proofs.layout.Layout.read.Goals as goal
 
 pub returns-clause-count : goal.returns-clause-count
 returns-clause-count c =

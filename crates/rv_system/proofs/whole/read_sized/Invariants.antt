@@ -1,6 +1,6 @@
 use Rattle.std.proofs.Common.{◌≤◌, ◌<◌, length}
 use Rattle.std.specs.Io.KnownBytes.{Consumes}
-use Rattle.rv_system.proofs.whole.read_whole.Given as goal
+use Rattle.rv_system.proofs.whole.read_sized.Given as goal
 
 -- what is read so far are the first bytes that the reader had, within the limit
 abbrev pub invariant-loop : goal.invariant-loop
