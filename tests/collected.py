@@ -13,6 +13,7 @@ usage: collected.py [NAME ..]     only cases whose path below tests/ begins so
 Standard library alone; the last line is 'N passed, M failed'.
 """
 
+import re
 import struct
 import sys
 
@@ -92,6 +93,20 @@ def lines(folder, name, word):
     return {tuple(it.split()[1:]) for it in (folder / name).read_text().splitlines() if it.startswith(f"{word} ")}
 
 
+def source_of_definitions(folder, words):
+    """The object of the source that the words `--defsym` stand for, behind those that are given; none without such."""
+    defined = [after.split("=", 1) for word, after in zip(words, words[1:]) if word == "--defsym"]
+    if not defined:
+        return []
+    # (what is left out does not depend on the values that the link tells)
+    used = {it for _, value in defined for it in re.findall(r"(?<![\w$])[A-Za-z_$][\w$]*", value)}
+    text = "".join(f".set {name}, 0\n" for name in sorted(used - {name for name, _ in defined}))
+    text += "".join(f".globl {name}\n.set {name}, {value}\n" for name, value in defined)
+    (folder / "definitions.s").write_text(text)
+    call(folder, ["as", "-o", "definitions.of.o", "definitions.s"])
+    return ["definitions.of.o"]
+
+
 def compare(folder, words):
     """Compares what one build or link makes without the option and with it."""
     given, results = both(folder, words, OPTION, ("whole", "left"))
@@ -107,6 +122,7 @@ def compare(folder, words):
         for at, source in enumerate(files):
             call(folder, ["as", "-o", f"{at}.of.o", source])
         files = [f"{at}.of.o" for at in range(len(files))]
+    files += source_of_definitions(folder, given)
     wanted = left_out([Object((folder / it).read_bytes()) for it in files])
     same("drop lines", wanted, {(int(file), int(section)) for file, section in lines(folder, "left.map", "drop")})
     if results[0]:

@@ -5,15 +5,19 @@ usage: debugged.py [NAME ..]     only cases whose path below tests/ begins so
 
 - In front is the executable without -g, but for the four fields of its header that lead to the section headers. The map
   is the same, and what is refused is so for the same fault.
-- The sections of regions have their addresses, and the symbols are the globals of the map (System V gABI, "Sections",
-  "Symbol Table").
+- The sections of regions have their addresses, and the symbols are the globals of the map, behind the labels that the
+  objects of the sources have for themselves, but for those in .L: at the address of the map's row of the last statement
+  there (System V gABI, "Sections", "Symbol Table"). Their types are those of `.type`, and their sizes those of `.size`
+  (GNU as): a number, or from the name to the end of the last statement of its section in front of the directive.
 - The line tables, run by the state machine of DWARF 5, 6.2, are the map's rows of code of each source that has some,
   with an end behind each stretch. An entry of .debug_info (3.1.1, 7.5) and one of .debug_aranges (6.1.2) lead to each.
-- Objects of `rv as -g` are linked by `rv ld -g` to the same bytes, and without -g to the executable without it.
+- Objects of `rv as -g` are linked by `rv ld -g` to the same bytes but for types and sizes, and without -g to the
+  executable without it.
 
 Standard library alone; the last line is 'N passed, M failed'.
 """
 
+import re
 import struct
 import sys
 
@@ -68,12 +72,70 @@ def sections(held):
 
 
 def symbols(found):
-    """The names and addresses of the symbols behind the local ones."""
+    """Of each symbol behind the first: whether it is local, its name, its section, its value, its type and its size."""
     (header, table), strings = found[".symtab"], found[".strtab"][1]
-    for at in range(24 * header[7], len(table), 24):
-        name, info, _, _, value, _ = struct.unpack_from("<IBBHQQ", table, at)
-        same("the binding of a symbol", 1, info >> 4)
-        yield Reader(strings, name).string().decode(), value
+    for at in range(24, len(table), 24):
+        name, info, _, section, value, size = struct.unpack_from("<IBBHQQ", table, at)
+        is_local = at < 24 * header[7]
+        same("the binding of a symbol", not is_local, info >> 4 != 0)
+        yield is_local, Reader(strings, name).string().decode(), section, value, info & 15, size
+
+
+def untyped(held):
+    """An executable without the types and the sizes of its symbols."""
+    header, table = sections(held)[".symtab"]
+    rows = [(*it[:1], it[1] & 0xF0, *it[2:5], 0) for it in struct.iter_unpack("<IBBHQQ", table)]
+    return held[: header[4]] + b"".join(struct.pack("<IBBHQQ", *it) for it in rows) + held[header[4] + header[5] :]
+
+
+def statements(text):
+    """The statements of a source, strings and characters aside."""
+    text = re.sub(r"/\*.*?\*/|#[^\n]*", " ", re.sub(r'"(?:\\.|[^"\\])*"|\'(?:\\.|[^\\\n])\'?', "0", text), flags=re.S)
+    for part in re.split(r"[\n;]", text):
+        while label := re.match(r"\s*[\w.$]+\s*:", part):
+            yield label[0]
+            part = part[label.end() :]
+        if part.strip():
+            yield part.strip()
+
+
+def said(text):
+    """The types of names by `.type`; by `.size` the ordinals of statements in front of which names end, or sizes."""
+    types, sizes = {}, {}
+    for ordinal, statement in enumerate(statements(text), 1):
+        if it := re.fullmatch(r"\.type\s+([\w.$]+)\s*,\s*[@%]\s*(function|object|notype)", statement):
+            types[it[1]] = ("notype", "object", "function").index(it[2])
+        elif it := re.fullmatch(r"\.size\s+([\w.$]+)\s*,\s*((?:0x)?[\da-f]+|\.\s*-\s*\1)", statement):
+            sizes[it[1]] = (None, int(it[2], 0)) if it[2][0].isdigit() else (ordinal, 0)
+    return types, sizes
+
+
+def names_of(folder, sources, text):
+    """The names of the objects of sources, with the addresses of the statements there by a map's text."""
+    rows = [it.split() for it in text.splitlines() if it.startswith("row ")]
+    known = {(int(it[1]), int(it[3])): (int(it[4], 16), int(it[5])) for it in rows}
+    for file, source in enumerate(sources, 1):
+        types, sizes = said((folder / source).read_text("latin-1"))
+        found = sections((folder / f"{file - 1}.o").read_bytes())
+        rows = [*struct.iter_unpack("<IIIIQII", found[".rv.rows"][1])] if ".rv.rows" in found else []
+        places = {(it[2], it[4]): it[1] for it in rows}
+        for is_local, name, section, value, *_ in symbols(found):
+            address, _ = known.get((file, places.get((section, value))), (None, 0))
+            if address is None or not name or is_local and name.startswith(".L"):
+                continue
+            behind, size = sizes.get(name, (None, 0))
+            if behind is not None:
+                last = [it[1] for it in rows if it[2] == section and it[1] < behind][-1:]
+                size = sum(known.get((file, *last), (address, 0))) - address
+            yield is_local, name, address, types.get(name, 0), size
+
+
+def globals_of(names, known):
+    """Globals with their types and sizes, by the last object that has the name, if that stands at the address."""
+    last = {name: rest for is_local, name, *rest in names if not is_local}
+    for name, address in known:
+        at, *rest = last.get(name, (None,))
+        yield name, address, *(rest if at == address else (0, 0))
 
 
 def table(held, at):
@@ -199,13 +261,18 @@ def compare(folder, words):
     # (objects of many sources are assembled one by one)
     if len(names) < 5 and not {"-l", "--library"} & set(given):
         options = [it for it in given[1:] if it not in names]
-        same("what objects are linked to", [known, plain], link(folder, options, names))
+        linked, less = link(folder, options, names)
+        same("what objects are linked to", [untyped(known), plain], [linked, less])
+        said_of = [*names_of(folder, names, text)]
+        same("labels", [it[1:] for it in said_of if it[0]], [(it[1], *it[3:]) for it in symbols(found) if it[0]])
+        shared = [(it[1], *it[3:]) for it in symbols(found) if not it[0]]
+        same("globals", list(globals_of(said_of, [it[:2] for it in shared])), shared)
     same("regions", region, {it[1:]: (h[3], h[3] + h[5]) for it, (h, _) in found.items() if it[1:] in region})
     for it, (header, body) in found.items():
         at = header[3] - region["text"][0] + 0x1000
         if it in (".text", ".rodata", ".data") and body:
             same(f"the bytes of {it}", plain[at : at + len(body)], body)
-    same("symbols", wanted, list(symbols(found)))
+    same("symbols", wanted, [(it[1], it[3]) for it in symbols(found) if not it[0]])
     heads, lines = [*entries(found)], found[".debug_line"][1]
     known = [tuple(it[name] for name in (NAME, COMP_DIR, LOW_PC, HIGH_PC)) for _, it in heads]
     same("units", [it for it, _ in units], known)

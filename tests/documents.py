@@ -20,8 +20,8 @@ import tempfile
 from pathlib import Path
 
 ROOT = Path(__file__).resolve().parent.parent
-PAGES = [ROOT / "README.md", ROOT / "CONTRIBUTING.md", ROOT / "tests/README.md", ROOT / "examples/README.md"]
-PAGES += [ROOT / "docs/CHANGING.md", *sorted(ROOT.glob("docs/manual/*.md"))]
+PAGES = [ROOT / it for it in ("README.md", "CONTRIBUTING.md", "tests/README.md", "examples/README.md")]
+PAGES += [ROOT / "examples/board/README.md", ROOT / "docs/CHANGING.md", *sorted(ROOT.glob("docs/manual/*.md"))]
 BLOCK = re.compile(r"(?m)^```(sh|asm)\n((?:(?!```).*\n)*)```$")
 COMMAND = re.compile(r"(?m)^\$ (.*)\n((?:(?!\$ ).*\n)*)")
 # The most that a block may take.

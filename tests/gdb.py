@@ -2,7 +2,8 @@
 """Debugs programs with gdb over `rv gdb`, and compares what gdb says: tests/gdb/NAME.gdb.
 
 The head of a session has `# KEY: VALUE`: `rv`, the words of `rv gdb` (prog.s, or prog where it is made); `build`, the
-sources of which `rv build -g` makes it; `link`, those of which `rv as -g` and `rv ld -g` make it; `gcc`, more words for GCC, which then links start.s and prog.c; `file NAME`,
+sources of which `rv build -g` makes it; `link`, those of which `rv as -g` and `rv ld -g` make it; `gcc`, more words for GCC, which then links start.s and prog.c; `objects`, more words
+for GCC, which then makes an object of prog.c, that `rv ld -g` links behind that of start.s; `file NAME`,
 all of a file when the session is over, with the escapes of C. A line `#--- NAME` begins a file. Behind `#--- session` a
 command stands as `(gdb) COMMAND`, and below it what gdb says, blank lines at its ends aside; a line `...` is any lines.
 Expected values come from the source of the program, and the words around them from gdb.
@@ -73,6 +74,13 @@ def link(folder, sources):
     subprocess.run([RV, "ld", "-g", "-o", "prog", *objects], cwd=folder, check=True, timeout=60)
 
 
+def link_object(folder, words):
+    """Links an object of rv and one of GCC."""
+    subprocess.run([RV, "as", "-g", "-o", "start.o", "start.s"], cwd=folder, check=True, timeout=60)
+    subprocess.run(f"{GCC} -g -mabi=lp64 {words} -c -o prog.o prog.c".split(), cwd=folder, check=True, timeout=60)
+    subprocess.run([RV, "ld", "-g", "-o", "prog", "start.o", "prog.o"], cwd=folder, check=True, timeout=60)
+
+
 def faults(path):
     """What is wrong in a session; None where a tool is missing."""
     keys, files, session = parts_of(path.read_text())
@@ -81,9 +89,11 @@ def faults(path):
         folder = Path(name)
         for file, text in files.items():
             (folder / file).write_text(text)
+        if {"gcc", "objects"} & {*values} and not shutil.which(GCC):
+            return None
+        if "objects" in values:
+            link_object(folder, values["objects"])
         if "gcc" in values:
-            if not shutil.which(GCC):
-                return None
             words = f"{GCC} {LINKED} {values['gcc']} -o prog start.s prog.c"
             subprocess.run(words.split(), cwd=folder, check=True, timeout=60)
         if "build" in values:

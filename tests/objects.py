@@ -50,7 +50,7 @@ def object_of(text):
 
     def named(name):
         names.extend(name.encode() + b"\0")
-        return len(names) - len(name) - 1
+        return len(names) - len(name.encode()) - 1
 
     def add(name, kind, flags, body, align, link=0, info=0, record=0, size=None):
         held.extend(bytes(-len(held) % 8))

@@ -23,7 +23,7 @@ FILES = ("README.md", "CONTRIBUTING.md", "crates.txt", "HANDLES", "Makefile")
 SCRIPTS = "run agreeing collected debugged damaged explained documents shells terminal streams editors".split()
 SCRIPTS += "gdb making refused".split()
 PAGE = 4096
-# What only `expansion` of the library calls, of which crates/rv_call_tests has the cases.
+# What only `expansion` of the library calls, of which crates/rv_library_tests has the cases.
 OF_LIBRARY = {
     "rv_pseudo::fault::takes_number_beside",
     "rv_pseudo::parcel::with_number",

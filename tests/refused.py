@@ -295,6 +295,7 @@ def commands(name, source, at, texts):
     calls += [(f"objdump --raw {name}", ["objdump", "--raw", str(at / "exe")], shown(raw))] if raw else []
     # (a run of sources takes no options of the link)
     calls += [(f"run of sources {name}", ["run", *paths], ran)] if not source.options else []
+    calls += [(f"run --board {name}", ["run", "--board", "virt", *paths], ran)] if name == "exit7" else []
     shells = [["completions", shell] for shell in ("bash", "zsh", "fish")] if name == "exit7" else []
     calls += [(f"{' '.join(it)} {name}", it, shown(output_of(at, *it))) for it in shells]
     calls += watched(name, source, at, paths) if name in ("exit7", "two_files") else []
@@ -440,6 +441,18 @@ def cases(name, source, at):
     return [*commands(name, source, at, texts), *of_bad_files(name, at), *of_library(name, source, at, texts)]
 
 
+def wrong_at_the_limit(at):
+    """What `read_whole`, which also reads the files of ./rv, answers at its limit: ./rv_refusal_tests takes an input of
+    1 MiB, empty lines at its end, and none of a byte more."""
+    lines = f"write_map\n\n{SOURCES['exit7'].files[0]}"
+    for size, status in ((1 << 20, 0), ((1 << 20) + 1, 1)):
+        given = lines.encode().ljust(size, b"\n")
+        came = Case("", [LIBRARY], at, given, None).answer()
+        said = "" if status == 0 else "rv_refusal_tests: no answer\n"
+        right = (came.status, came.message) == (status, said)
+        yield None if right else f"an input of {size} bytes: {came}"
+
+
 def main(names):
     for it in (RV, LIBRARY):
         if not it.exists():
@@ -459,6 +472,7 @@ def main(names):
                 for number in range(1, count + 2):
                     wanted = case.refused() if number <= count else case.wanted
                     lines.append(pool.submit(case.wrong, wanted, shim, number))
+        lines += [] if names else wrong_at_the_limit(Path(folder))
         lines = [it.result() if hasattr(it, "result") else it for it in lines]
     for it in filter(None, lines):
         print(it)

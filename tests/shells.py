@@ -27,7 +27,7 @@ ROWS = [
     (
         "rv build -",
         "-o --map -g --text-start --origin --no-relax --gc-sections --pad-ends --explain "
-        "--library -l -L --start-group --end-group --help",
+        "--defsym --library -l -L --start-group --end-group --help",
     ),
     ("rv dump -", "--help"),
     ("rv run pro", "program.s"),

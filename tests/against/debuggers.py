@@ -2,11 +2,13 @@
 
 usage: compare.py debuggers [SOURCE ..]
 
-Of each source, by default those of examples/ and of the cases of tests/run, and of a program of two sources and one
-without code:
+Of each source, by default those of examples/ and of the cases of tests/run, of a program of two sources and one
+without code; and of a program of C, by GCC at four levels, the types and the sizes alone:
 
-  nm         each global has the map's address
-  readelf    the decoded lines are the map's rows of code, and those of `rv ld -g` of objects of `rv as -g`
+  nm         each global has the map's address; the local symbols that are no constants have the names, and those of
+             code the source and line, that they have in the executable of GNU as and ld
+  readelf    the decoded lines are the map's rows of code, and those of `rv ld -g` of objects of `rv as -g`; symbols
+             have the types and the sizes that they have in the executable of GNU as and ld
   addr2line  each row of code has its source and line
   dwarfdump  `llvm-dwarfdump --verify` finds nothing wrong
   objdump    -dl shows the lines that it shows of GNU as and ld, in the same order
@@ -27,7 +29,7 @@ from pathlib import Path
 from against.common import GNU, ROOT, RV, need
 from run import cases
 
-TOOLS = [f"{GNU}{it}" for it in ("nm", "readelf", "addr2line", "objdump", "objcopy", "strip", "as", "ld")]
+TOOLS = [f"{GNU}{it}" for it in ("gcc", "nm", "readelf", "addr2line", "objdump", "objcopy", "strip", "as", "ld")]
 # Two sources whose sections of text interleave, and one of data alone.
 FIRST = b""".globl _start
 _start: li a0, 3
@@ -49,6 +51,38 @@ last: nop
 word: .word 1
 """
 THIRD = b".data\n.globl other\nother: .dword square\n"
+# A program with calls, a function that is cut in two, variables and constants.
+PROGRAM = b"""extern void stop(int) __attribute__((noreturn, cold));
+static const char letters[11] = "0123456789";
+unsigned long totals[4];
+static unsigned count = 3;
+__attribute__((noinline)) static unsigned long mixed(unsigned long n, unsigned long k) {
+    if (n > 90) stop(n);
+    for (unsigned long i = 0; i < n; i++) k += (k ^ i) + letters[i % 10];
+    return k;
+}
+__attribute__((noinline)) unsigned long twice(unsigned long n) { return mixed(n, count) + mixed(n + 1, 2); }
+void stop(int n) { for (;;) totals[0] += n; }
+int main(void) {
+    for (int k = 0; k < 4; k++) totals[k] = twice(k);
+    return totals[3] & 63;
+}
+"""
+START = b""".option norvc
+.globl _start
+.type _start, @function
+_start: call main
+    li a7, 93
+    ecall
+.size _start, . - _start
+"""
+LEVELS = ("-O0", "-O1", "-O2", "-Os")
+
+
+def compiled(level):
+    """What GCC makes of the program of C, without compressed code, of which GNU as has more."""
+    words = [f"{GNU}gcc", level, "-march=rv64ima", "-mabi=lp64", "-mcmodel=medany", "-S", "-x", "c", "-o", "-", "-"]
+    return b".option norvc\n" + subprocess.run(words, input=PROGRAM, stdout=subprocess.PIPE, check=True).stdout
 
 
 def output(folder, *words):
@@ -75,6 +109,46 @@ def shown_lines(folder, exe):
         elif re.match(r"\s+[0-9a-f]+:\t", it) and found[-1:] != [at]:
             found.append(at)
     return found
+
+
+def labels(folder, exe):
+    """The local symbols that are no constants, and of those of code the source and line."""
+    found = [it.split() for it in output(folder, f"{GNU}nm", exe).splitlines()]
+    found = [it for it in found if it[1].islower() and it[1] != "a" and not it[2].startswith("$")]
+    code = [it for it in found if it[1] == "t"]
+    lines = output(folder, f"{GNU}addr2line", "-s", "-e", exe, *(it[0] for it in code)).splitlines() if code else []
+    return sorted(it[2] for it in found), sorted((it[2], line) for it, line in zip(code, lines, strict=True))
+
+
+def typed(folder, exe):
+    """The types and the sizes of symbols, in the order of their names."""
+    found = [it.split() for it in output(folder, f"{GNU}readelf", "-sW", exe).splitlines()]
+    found = [it for it in found if len(it) == 8 and it[0][:-1].isdigit() and it[3] in ("NOTYPE", "OBJECT", "FUNC")]
+    return sorted((it[7], it[3], it[2]) for it in found)
+
+
+def link_by_gnu(folder, names):
+    """Makes the executable of GNU as and ld."""
+    for name in names:
+        output(folder, f"{GNU}as", "-g", "-march=rv64imac", "-mabi=lp64", "-o", f"{name}.o", name)
+    # (no address is near this one, so that ld does not shorten addresses, as rv does not)
+    far = "--defsym=__global_pointer$=0x70000000"
+    output(folder, f"{GNU}ld", far, "-o", "gnu", *(f"{name}.o" for name in names))
+
+
+def type_differences(folder):
+    """Whether names have other types and sizes than in the executable of GNU as and ld."""
+    ours, theirs = typed(folder, "exe"), typed(folder, "gnu")
+    both = {it[0] for it in ours} & {it[0] for it in theirs}
+    if [it for it in ours if it[0] in both] != [it for it in theirs if it[0] in both]:
+        yield "readelf: types and sizes"
+
+
+def c_differences(folder, names):
+    """The same of a program of C, of whose sections GNU ld has some in another order."""
+    output(folder, RV, "build", "-g", "-o", "exe", *names)
+    link_by_gnu(folder, names)
+    yield from type_differences(folder)
 
 
 def lines_of_objects(folder, names):
@@ -108,8 +182,8 @@ def differences(folder, names):
     """What the tools say otherwise of the program of some sources."""
     output(folder, RV, "build", "-g", "-o", "exe", "--map", "map", *names)
     rows, known = rows_of((folder / "map").read_text(), names)
-    named = {it[2]: int(it[0], 16) for line in output(folder, f"{GNU}nm", "exe").splitlines() if (it := line.split())}
-    if named != known:
+    listed = [it.split() for it in output(folder, f"{GNU}nm", "exe").splitlines()]
+    if {it[2]: int(it[0], 16) for it in listed if it[1].isupper()} != known:
         yield "nm"
     decoded = output(folder, f"{GNU}readelf", "--debug-dump=decodedline", "exe")
     lines = re.findall(r"^(\S+)\s+(\d+)\s+(0x[0-9a-f]+)\s+x$", decoded, re.M)
@@ -129,11 +203,12 @@ def differences(folder, names):
             yield words[0]
     if lines_of_objects(folder, names) != decoded:
         yield "readelf of objects"
-    for name in names:
-        output(folder, f"{GNU}as", "-g", "-march=rv64imac", "-mabi=lp64", "-o", f"{name}.o", name)
-    output(folder, f"{GNU}ld", "-o", "gnu", *(f"{name}.o" for name in names))
+    link_by_gnu(folder, names)
     if shown_lines(folder, "exe") != shown_lines(folder, "gnu"):
         yield "objdump"
+    if labels(folder, "exe") != labels(folder, "gnu"):
+        yield "nm: labels"
+    yield from type_differences(folder)
     firsts = {}
     for at, name, line in rows:
         firsts.setdefault((name, line), at)
@@ -149,6 +224,8 @@ def programs(given):
         if is_small and any(b"_start" in held for held in files.values()):
             yield name, files
     yield "three sources", {"first.s": FIRST, "second.s": SECOND, "third.s": THIRD}
+    for level in LEVELS:
+        yield f"C {level}", {"start.s": START, "program.s": compiled(level)}
 
 
 def main():
@@ -160,7 +237,7 @@ def main():
             for name, held in files.items():
                 (folder / name).write_bytes(held)
             try:
-                found = list(differences(folder, list(files)))
+                found = list((c_differences if title.startswith("C ") else differences)(folder, list(files)))
             except ValueError as why:
                 found = [str(why)]
         if found:

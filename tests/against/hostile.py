@@ -535,7 +535,7 @@ def messages():
 
 FAULTS, ENDS = messages()
 # what a line says of a file without a fault's number (program.md)
-OF_FILES = (": not a map", ": no symbols", ": no raw listing")
+OF_FILES = re.compile(r".+: (not a map( of \S+)?|no symbols|no raw listing)")
 
 
 def is_named(words, status, message):
@@ -549,7 +549,9 @@ def is_named(words, status, message):
         end = re.fullmatch(r"(\w+)( [0-9a-f]+)?", line[1])
         return words[0] == "run" and bool(end) and end[1] in ENDS
     fault = re.fullmatch(r"(?:file\(.*\): |\S+: |\S+:\d+: )?([AEFLX]\d+) (\w+)(?: .*)?", line[1])
-    return line[1] == "out of memory" or line[1].endswith(OF_FILES) or bool(fault) and FAULTS.get(fault[1]) == fault[2]
+    if line[1] == "out of memory" or OF_FILES.fullmatch(line[1]):
+        return True
+    return bool(fault) and FAULTS.get(fault[1]) == fault[2]
 
 
 def called(words, at, most=None):

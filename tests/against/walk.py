@@ -1,13 +1,14 @@
 """Links random lists of objects with ./rv, and by a plain walk over their bytes that is written apart.
 
-usage: compare.py walk COUNT [--seed N] [--from N] [--jobs N] [--only N] [--rv PROGRAM]
+usage: compare.py walk COUNT [--origin] [--seed N] [--from N] [--jobs N] [--only N] [--rv PROGRAM]
 
 Each list has one to five objects: text with calls, branches, halves of addresses, words and paddings, data, sections
 that are not loaded, code without bytes up to 2^63, symbols of each binding at, before and past the ends of sections,
 numbers, rows. The walk takes what a link is from the manual and the standards alone: which calls become short (passes
 over all calls, and where they are few each family of sizes is tried), paddings, addresses, bytes, the map, or the first
 fault. Each list is linked with and without `--no-relax`, and so with `--gc-sections`; the walk's answer must be that of
-`rv ld`, byte by byte. List N of a seed is the same in each run; `--only N` takes it alone.
+`rv ld`, byte by byte. List N of a seed is the same in each run; `--only N` takes it alone. With `--origin` a link begins
+where that option alone lets it: at the edges of the stack, of 2^31, 2^32, 2^63 and 2^64, and at any page.
 
 Each find is one line; its objects are kept in the folder that the last line names. Exit status 1 if there is a find.
 """
@@ -33,6 +34,8 @@ WRITE, ALLOC, EXEC = 1, 2, 4
 LOCAL, GLOBAL, WEAK = 0, 1, 2
 ABSOLUTE, UNDEFINED, UNLOADED = "absolute", "undefined", "unloaded"
 WHOLE, STACK, MIB = 1 << 64, 0x3FF00000, 1 << 20
+# The page below 2^64, which stays free.
+LAST = WHOLE - 4096
 NAME = {number: name for name, number in KINDS.items()}
 # fmt: off
 WIDTH = {
@@ -185,11 +188,21 @@ def alignment_of(addend):
     return 1 << addend.bit_length()
 
 
+def ceiling(start):
+    """The address up to which a program may go that begins here; None where none may begin."""
+    if start % 4096:
+        return None
+    if start < STACK:
+        return STACK
+    return LAST if BY_ORIGIN and STACK + MIB <= start < LAST else None
+
+
 class Link:
     """A link of objects; `answer` is the executable and the map, or the fault."""
 
     def __init__(self, objects, start, relax, collects=False):
         self.start, self.relax, self.collects, self.drops = start, relax, collects, []
+        self.ceiling = ceiling(start)
         self.take(objects)
 
     def take(self, objects):
@@ -221,7 +234,7 @@ class Link:
     def linked(self):
         if len(self.objects) > 1024:
             raise Refused("L10 TooManyFiles")
-        if self.start >= STACK or self.start % 4096:
+        if self.ceiling is None:
             raise Refused("L9 BadTextStart")
         self.choose()
         self.begin = self.chosen.get("_start", (0, None))
@@ -404,7 +417,7 @@ class Link:
                 self.address[at] = end + -end % self.align(at)
                 end = self.address[at] + self.section(*at).size
             self.bounds[region] = first, end
-        if end > STACK or self.memory() > 256 * MIB:
+        if end > self.ceiling or self.memory() > 256 * MIB:
             raise Refused("L8 ImageTooLarge")
 
     def memory(self):
@@ -591,6 +604,15 @@ class Link:
 
 # --- random lists
 
+# Where texts begin, and where none may: by --text-start, and by --origin.
+STARTS = [0x10000] * 16 + [0, 0x1000, STACK - 4 * MIB, STACK - 12288]
+NO_STARTS = [STACK, 4097, 2, 1 << 63, LAST]
+ORIGINS = [
+    *(0, 0x1000, 0x10000, STACK - 4 * MIB, STACK - 12288, STACK - 4096, STACK + MIB, STACK + MIB + 4096),
+    *((1 << 31) - MIB, (1 << 31) - 8192, 1 << 31, 1 << 31, (1 << 32) - 8192, 1 << 32, (1 << 63) - 8192, 1 << 63),
+    *(LAST - 256 * MIB, LAST - 4 * MIB, LAST - 12288, LAST - 4096),
+]
+NO_ORIGINS = [STACK, STACK + 4096, STACK + MIB - 4096, LAST, LAST + 1, WHOLE - 1, 4097, (1 << 31) + 2048]
 # fmt: off
 ADDENDS = [0] * 30 + [
     2, -2, 4, 8, -8, 1, -1, 2046, -2048, 4094, MIB - 2, -MIB, 1 << 31, -1 << 31, 1 << 62, WHOLE // 2 - 1, -WHOLE // 2,
@@ -854,8 +876,10 @@ def some_list(pick):
     if pick.random() < 0.002:
         nop = Section(PROGBITS, ALLOC | EXEC, 2, 2, bytearray(b"\x01\0"))
         objects = [Object(True, [nop], [Symbol("_start", WEAK, 1, 0)], [])] * pick.choice([1024, 1025])
-    wrong = [STACK, 4097, 2, 1 << 63, WHOLE - 4096] if pick.random() < 0.015 else None
-    start = pick.choice(wrong or [0x10000] * 16 + [0, 0x1000, STACK - 4 * MIB, STACK - 12288])
+    right, wrong = (ORIGINS, NO_ORIGINS) if BY_ORIGIN else (STARTS, NO_STARTS)
+    start = pick.choice(wrong if pick.random() < 0.015 else right)
+    if BY_ORIGIN and pick.random() < 0.3:
+        start = pick.randrange(WHOLE >> pick.randrange(12, 52)) << 12
     holes = [section for it in objects for section in it.sections if region_of(section) == "bss"]
     if holes and pick.random() < 0.2:
         holes[-1].size = 0
@@ -864,20 +888,22 @@ def some_list(pick):
         link = Link(objects, start, pick.random() < 0.5)
         link.answer()
         if "bss" in getattr(link, "bounds", {}):
-            holes[-1].size = max(
-                0, min(STACK - link.bounds["bss"][1], 256 * MIB - link.memory()) + pick.choice([-1, 0, 0, 1, 2])
-            )
+            room = min(link.ceiling - link.bounds["bss"][1], 256 * MIB - link.memory())
+            holes[-1].size = max(0, room + pick.choice([-1, 0, 0, 1, 2]))
     return objects, start
 
 
 # --- the comparison
 
 
+OPTION = {False: "--text-start", True: "--origin"}
+
+
 def linked(folder, files, start, options):
     """What the program makes of the files: the executable and the map, or the fault."""
     for name in ("exe", "map"):
         (folder / name).unlink(missing_ok=True)
-    words = ["ld", "-o", "exe", "--map", "map", "--text-start", hex(start), *options, *files]
+    words = ["ld", "-o", "exe", "--map", "map", OPTION[BY_ORIGIN], hex(start), *options, *files]
     process = subprocess.run([PROGRAM, *words], cwd=folder, capture_output=True, timeout=600)
     message = process.stderr.decode("utf8", "backslashreplace")
     if process.returncode == 0 and not message:
@@ -935,9 +961,12 @@ def compared(number):
 
 
 def main():
-    global SEED, KEPT, PROGRAM
-    given = random_parser(__doc__).parse_args()
+    global SEED, KEPT, PROGRAM, BY_ORIGIN
+    parser = random_parser(__doc__)
+    parser.add_argument("--origin", action="store_true")
+    given = parser.parse_args()
     need(given.rv)
+    BY_ORIGIN = given.origin
     SEED, PROGRAM, KEPT = given.seed, given.rv.resolve(), Path(tempfile.mkdtemp(prefix="walk-"))
     numbers = numbers_of(given)
     ends, finds, done, start = Counter(), 0, 0, time.monotonic()

@@ -119,6 +119,7 @@ Options:
       --state <FILE>    Writes as JSON how the run ended: registers, count, digests of memory and console
       --map <F>         The map of the executable, behind which its sources may stand, for symbols and lines
       --explain         Shows below a fault where it stands and why, as on a terminal
+      --board <NAME>    Runs on a board: virt has the RAM, the UART and the test device of QEMU's
       --until <SYMBOL>  Ends the run before the instruction of a symbol, or of an address as 0x10008
       --stderr          Writes what the guest writes to descriptor 2 to standard error
   -h, --help            Print help
@@ -129,6 +130,7 @@ Examples:
   rv run --limit 10M prog < input
   rv run --report --map prog.map prog
   rv run --state prog.json --until f prog.s
+  rv run --board virt hello.s
   rv run - < prog.s
 
 Standard input is the guest's input, and its console is standard output.
@@ -285,21 +287,22 @@ Arguments:
   <SRC>...  The sources, in the order of their sections
 
 Options:
-  -o <EXE>              The executable to write
-      --map <F>         Writes the map as well
-  -g                    Adds names and lines for debuggers
-      --text-start <N>  The address of the text, decimal or 0x and hexadecimal [default: 0x10000]
-      --origin <N>      The address of the text, also behind the stack, such as 0x80000000
-      --no-relax        Leaves every call its eight bytes
-      --gc-sections     Leaves out sections to which nothing leads from the entry
-      --pad-ends        Puts 8 zeros behind constants and variables, as GCC loads past an object's end
-      --explain         Shows below a fault where it stands and why, as on a terminal
-      --library <FILE>  Takes the members of an archive that define what is still undefined
-  -l <NAME>             As --library DIR/libNAME.a
-  -L <DIR>              A folder in which -l looks
-      --start-group     Goes round the archives up to --end-group until nothing more is taken
-      --end-group       Ends a group of archives
-  -h, --help            Print help
+  -o <EXE>               The executable to write
+      --map <F>          Writes the map as well
+  -g                     Adds names and lines for debuggers
+      --text-start <N>   The address of the text, decimal or 0x and hexadecimal [default: 0x10000]
+      --origin <N>       The address of the text, also behind the stack, such as 0x80000000
+      --no-relax         Leaves every call its eight bytes
+      --gc-sections      Leaves out sections to which nothing leads from the entry
+      --pad-ends         Puts 8 zeros behind constants and variables, as GCC loads past an object's end
+      --explain          Shows below a fault where it stands and why, as on a terminal
+      --defsym <NAME=N>  Gives a global name a value, as ram_size=64*1024 or heap=_end+16
+      --library <FILE>   Takes the members of an archive that define what is still undefined
+  -l <NAME>              As --library DIR/libNAME.a
+  -L <DIR>               A folder in which -l looks
+      --start-group      Goes round the archives up to --end-group until nothing more is taken
+      --end-group        Ends a group of archives
+  -h, --help             Print help
 
 Example:
   rv build -o prog --map prog.map prog.s
@@ -343,21 +346,22 @@ Arguments:
   [OBJ]...  The objects, in the order of their sections
 
 Options:
-  -o <EXE>              The executable to write
-      --map <F>         Writes the map as well
-  -g                    Adds names and lines for debuggers
-      --text-start <N>  The address of the text, decimal or 0x and hexadecimal [default: 0x10000]
-      --origin <N>      The address of the text, also behind the stack, such as 0x80000000
-      --no-relax        Leaves every call its eight bytes
-      --gc-sections     Leaves out sections to which nothing leads from the entry
-      --pad-ends        Puts 8 zeros behind constants and variables, as GCC loads past an object's end
-      --explain         Shows below a fault where it stands and why, as on a terminal
-      --library <FILE>  Takes the members of an archive that define what is still undefined
-  -l <NAME>             As --library DIR/libNAME.a
-  -L <DIR>              A folder in which -l looks
-      --start-group     Goes round the archives up to --end-group until nothing more is taken
-      --end-group       Ends a group of archives
-  -h, --help            Print help
+  -o <EXE>               The executable to write
+      --map <F>          Writes the map as well
+  -g                     Adds names and lines for debuggers
+      --text-start <N>   The address of the text, decimal or 0x and hexadecimal [default: 0x10000]
+      --origin <N>       The address of the text, also behind the stack, such as 0x80000000
+      --no-relax         Leaves every call its eight bytes
+      --gc-sections      Leaves out sections to which nothing leads from the entry
+      --pad-ends         Puts 8 zeros behind constants and variables, as GCC loads past an object's end
+      --explain          Shows below a fault where it stands and why, as on a terminal
+      --defsym <NAME=N>  Gives a global name a value, as ram_size=64*1024 or heap=_end+16
+      --library <FILE>   Takes the members of an archive that define what is still undefined
+  -l <NAME>              As --library DIR/libNAME.a
+  -L <DIR>               A folder in which -l looks
+      --start-group      Goes round the archives up to --end-group until nothing more is taken
+      --end-group        Ends a group of archives
+  -h, --help             Print help
 
 Example:
   rv ld -o prog --map prog.map prog.o other.o
@@ -371,13 +375,14 @@ Arguments:
   <SRC>...  The sources, in the order of their sections
 
 Options:
-      --text-start <N>  The address of the text, decimal or 0x and hexadecimal [default: 0x10000]
-      --origin <N>      The address of the text, also behind the stack, such as 0x80000000
-      --no-relax        Leaves every call its eight bytes
-      --gc-sections     Leaves out sections to which nothing leads from the entry
-      --pad-ends        Puts 8 zeros behind constants and variables, as GCC loads past an object's end
-      --explain         Shows below a fault where it stands and why, as on a terminal
-  -h, --help            Print help
+      --text-start <N>   The address of the text, decimal or 0x and hexadecimal [default: 0x10000]
+      --origin <N>       The address of the text, also behind the stack, such as 0x80000000
+      --no-relax         Leaves every call its eight bytes
+      --gc-sections      Leaves out sections to which nothing leads from the entry
+      --pad-ends         Puts 8 zeros behind constants and variables, as GCC loads past an object's end
+      --explain          Shows below a fault where it stands and why, as on a terminal
+      --defsym <NAME=N>  Gives a global name a value, as ram_size=64*1024 or heap=_end+16
+  -h, --help             Print help
 
 Example:
   rv map --text-start 0x20000 prog.s

@@ -1,0 +1,135 @@
+"""Compares debug sections in objects of `rv as -g` with those of GNU as, and what is loaded with `rv as`.
+
+usage: compare.py debug_objects [COUNT]      (200 sources by default)
+
+GCC compiles with `-g` and the words that docs/manual/gcc.md names, for DWARF 5 and 4 in turn, at four levels: the
+programs of bench/ and examples/c, and then C that bench/drawn.py draws. Of each source it asks that
+
+  sections     debug sections are those of GNU as, with the same bytes, alignment and no flag `a`
+  relocations  theirs have the same offsets, kinds, symbols and addends
+  loaded       without debug sections and their relocations the object is that of `rv as` of the source
+  image        `rv ld` makes of both the same executable, where the source has a start
+
+A line for each that differs; the last line is 'N passed, M failed'. It needs riscv64-unknown-elf-gcc and its binutils.
+"""
+
+import struct
+import subprocess
+import sys
+import tempfile
+from itertools import count, cycle, islice
+from pathlib import Path
+
+from against.common import GNU, ROOT, RV, completed, need
+
+sys.path.insert(0, str(ROOT / "bench"))
+
+import drawn  # noqa: E402  (bench/ has no package)
+
+WORDS = "-march=rv64imac -mabi=lp64 -ffreestanding -w -fno-ipa-icf -fdata-sections -g -gno-as-loc-support".split()
+WORDS += ["-fno-dwarf2-cfi-asm", "-S", "-x", "c", "-"]
+LEVELS = ("-O0", "-O1", "-O2", "-Os")
+VERSIONS = ("-gdwarf-5", "-gdwarf-4")
+ALLOC, NOBITS = 2, 8
+
+
+def text_of_table(table, at):
+    """The string at an offset of a table of strings."""
+    return table[at : table.index(b"\0", at)].decode()
+
+
+class Object:
+    """What an object's file has: its sections by their names, and the relocations of each."""
+
+    def __init__(self, path):
+        self.file = Path(path).read_bytes()
+        at, number, names = struct.unpack_from("<Q18xHH", self.file, 40)[0], *struct.unpack_from("<HH", self.file, 60)
+        self.headers = [struct.unpack_from("<IIQQQQIIQQ", self.file, at + 64 * index) for index in range(number)]
+        table = self.bytes_of(self.headers[names])
+        self.names = [text_of_table(table, it[0]) for it in self.headers]
+
+    def bytes_of(self, header):
+        return b"" if header[1] == NOBITS else self.file[header[4] : header[4] + header[5]]
+
+    def symbol(self, table, index):
+        """A symbol: its name, or that of the section where it stands, and the offset."""
+        symbols, strings = self.bytes_of(self.headers[table]), self.bytes_of(self.headers[self.headers[table][6]])
+        name, section, value = struct.unpack_from("<I2xHQ", symbols, 24 * index)
+        return (text_of_table(strings, name), 0) if name else (self.names[section], value)
+
+    def relocations(self, index):
+        """The relocations of a section: the offset, the kind, the symbol and what is added."""
+        for header in self.headers:
+            if header[1] == 4 and header[7] == index:
+                for at, info, addend in struct.iter_unpack("<QQq", self.bytes_of(header)):
+                    name, value = self.symbol(header[6], info >> 32)
+                    yield at, info & 0xFFFFFFFF, name, value + addend
+
+    def debug_sections(self):
+        """Of each debug section its bytes, its alignment, whether it is loaded, and its relocations."""
+        for index, (name, header) in enumerate(zip(self.names, self.headers)):
+            if name.startswith(".debug_"):
+                loaded = bool(header[2] & ALLOC)
+                yield name, (self.bytes_of(header), max(header[8], 1), loaded), list(self.relocations(index))
+
+    def loaded(self):
+        """Of each other section with a type, but for tables of names and symbols, its header's numbers and bytes."""
+        for index, (name, header) in enumerate(zip(self.names, self.headers)):
+            if header[1] in (1, 7, 8) and not name.startswith((".debug_", ".rv.")):
+                yield name, header[1:4], header[5], header[8], self.bytes_of(header), list(self.relocations(index))
+
+
+def sources(number):
+    """So many sources of C, each with a title, a level and a version of DWARF."""
+    files = sorted((ROOT / "bench" / "programs").glob("*.c")) + sorted((ROOT / "examples" / "c").glob("*.c"))
+    ways = cycle((level, version) for version in VERSIONS for level in LEVELS)
+    texts = [(it.name, it.read_text(), it.parent) for it in files]
+    kinds = cycle(drawn.OF_KIND)
+    more = ((f"drawn {seed}", drawn.Functions(seed, 6, next(kinds)).program(8), ROOT) for seed in count(1))
+    whole = ((*it, *next(ways)) for held in (texts, more) for it in held)
+    return islice(whole, number)
+
+
+def differences(folder, text, parent, words):
+    """What differs of the objects of a source."""
+    made = subprocess.run(
+        [f"{GNU}gcc", *WORDS, *words, f"-I{parent}", "-o", "-"], input=text.encode(), stdout=subprocess.PIPE, check=True
+    )
+    (folder / "a.s").write_bytes(made.stdout)
+    for tool in (
+        (RV, "as", "-g", "-o", "ours.o", "a.s"),
+        (RV, "as", "-o", "plain.o", "a.s"),
+        (f"{GNU}as", "-march=rv64imac", "-mabi=lp64", "-o", "theirs.o", "a.s"),
+    ):
+        done = completed(tool, cwd=folder)
+        if done is None or done.returncode or done.stderr:
+            yield f"{tool[0]}: {done and done.stderr.decode().strip()}"
+            return
+    ours, theirs, plain = (Object(folder / f"{name}.o") for name in ("ours", "theirs", "plain"))
+    had, wanted = ({it[0]: it[1:] for it in of.debug_sections()} for of in (ours, theirs))
+    for name in sorted(had.keys() | wanted.keys()):
+        if name not in had or name not in wanted or had[name][0] != wanted[name][0]:
+            yield f"section {name}"
+        elif had[name][1] != wanted[name][1]:
+            yield f"relocations of {name}"
+    if list(ours.loaded()) != list(plain.loaded()):
+        yield "loaded"
+    if b"_start" in text.encode():
+        for name in ("ours", "plain"):
+            completed((RV, "ld", "-o", f"{name}.exe", f"{name}.o"), cwd=folder)
+        if (folder / "ours.exe").read_bytes() != (folder / "plain.exe").read_bytes():
+            yield "image"
+
+
+def main():
+    need(f"{GNU}gcc", f"{GNU}as")
+    number = int(sys.argv[1]) if sys.argv[1:] else 200
+    failed = 0
+    for title, text, parent, *words in sources(number):
+        with tempfile.TemporaryDirectory() as folder:
+            found = list(differences(Path(folder), text, parent, words))
+        if found:
+            failed += 1
+            print(f"{title} {' '.join(words)}: {', '.join(found)}")
+    print(f"{number - failed} passed, {failed} failed")
+    return 1 if failed else 0

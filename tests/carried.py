@@ -1,0 +1,175 @@
+#!/usr/bin/env python3
+"""Links objects of GCC with `rv ld -g`, and compares their debug sections, byte for byte, with those that GNU ld makes.
+
+usage: carried.py
+
+GNU ld puts the sections where rv's map has them, and its objects have lost SHF_MERGE, so that it joins no strings. Each
+debug section that it makes is then the one of rv (System V gABI, "Relocation"; RISC-V ELF psABI, "Relocations"), also
+where code is left out, so that addresses become 0, or 1 in .debug_ranges. In front of GNU's .debug_abbrev stand those of
+rv's own units, which it always has. With relaxation, which GNU does otherwise, readelf reads each function at its address.
+
+Without GCC for RISC-V nothing is tested. Standard library alone; the last line is 'N passed, M failed'.
+"""
+
+import re
+import shutil
+import struct
+import subprocess
+import sys
+import tempfile
+from pathlib import Path
+
+TESTS = Path(__file__).resolve().parent
+RV = TESTS.parent / "rv"
+GNU = "riscv64-unknown-elf-"
+MACHINE = "-march=rv64imac -mabi=lp64 -mcmodel=medany"
+
+START = """
+.globl _start
+_start: call main
+li a7, 93
+ecall
+"""
+OWN = """
+.globl _start
+_start: ret
+"""
+FIRST = """
+struct point { int x; long y; };
+typedef struct point Point;
+extern int twice(int n);
+int total = 5;
+static Point where = {1, 2};
+int zeros[20];
+const int table[3] = {7, 8, 9};
+static int helper(int q) { return q * 7 + total; }
+int never_called(int z) { int w = helper(z); return w + table[z & 1]; }
+static __attribute__((noinline)) int sum(Point *p, int n)
+{
+  int s = 0;
+  for (int i = 0; i < n; i++)
+    s += p->x + twice(i);
+  return s + (int)p->y;
+}
+int main(void)
+{
+  where.x = total;
+  int r = sum(&where, 4);
+  return r + table[r & 1] + zeros[3];
+}
+"""
+SECOND = """
+static int last;
+int twice(int n)
+{
+  int m = n * 2;
+  last = m;
+  return m;
+}
+int never_either(int n) { return last + n; }
+"""
+WORDS = (
+    "-O0 -g",
+    "-O1 -g",
+    "-O2 -g -ffunction-sections -fdata-sections",
+    "-Os -g -gdwarf-4",
+    "-O2 -gdwarf-4 -ffunction-sections",
+    "-O1 -g -gdwarf-4 -mno-relax",
+    "-O3 -gdwarf-3 -ffunction-sections",
+)
+SCRIPT = """
+ENTRY(_start)
+SECTIONS {
+  .text 0x%x : { *(.text .text.*) }
+  .rodata 0x%x : { *(.rodata .rodata.* .srodata .srodata.*) }
+  .data 0x%x : { *(.data .data.* .sdata .sdata.*) }
+  .bss 0x%x : { *(.bss .bss.* .sbss .sbss.*) }
+  /DISCARD/ : { *(.comment) *(.riscv.attributes) *(.rv.*) }
+}
+"""
+
+
+def call(folder, words):
+    """Runs a command, which has to succeed."""
+    ran = subprocess.run(words.split(), cwd=folder, stdout=subprocess.PIPE, stderr=subprocess.PIPE, text=True, timeout=120)
+    if ran.returncode:
+        raise SystemExit(f"{words}: {ran.stderr}")
+    return ran.stdout
+
+
+def sections(held):
+    """The contents of each section, by its name."""
+    at, size, count, names = struct.unpack_from("<Q", held, 40)[0], *struct.unpack_from("<HHH", held, 58)
+    headers = [struct.unpack_from("<IIQQQQIIQQ", held, at + size * index) for index in range(count)]
+    body = lambda it: held[it[4] : it[4] + it[5]] if it[1] != 8 else b""
+    strings = body(headers[names])
+    return {strings[it[0] : strings.index(b"\0", it[0])].decode(): body(it) for it in headers}
+
+
+def compile_all(folder, words):
+    """Makes the objects of a program: for rv, and for GNU without SHF_MERGE."""
+    for name, text in (("start.s", START), ("own.s", OWN), ("first.c", FIRST), ("second.c", SECOND)):
+        (folder / name).write_text(text)
+    call(folder, f"{GNU}as {MACHINE.rsplit(' ', 1)[0]} -o start.o start.s")
+    call(folder, f"{RV} as -o own.o own.s")
+    call(folder, f"{RV} ld -g -o own own.o")
+    own = sections((folder / "own").read_bytes())[".debug_abbrev"]
+    (folder / "own").write_bytes(own)
+    call(folder, f"{GNU}objcopy --add-section .debug_abbrev=own start.o start-gnu.o")
+    for name in ("first", "second"):
+        call(folder, f"{GNU}gcc {MACHINE} {words} -c -o {name}.o {name}.c")
+        flags = "--set-section-flags .debug_str=readonly,debug --set-section-flags .debug_line_str=readonly,debug"
+        call(folder, f"{GNU}objcopy {flags} {name}.o {name}-gnu.o")
+
+
+def compared(folder, more):
+    """The names of the debug sections that differ from GNU's."""
+    call(folder, f"{RV} ld -g --no-relax {more} -o prog --map map start.o first.o second.o")
+    regions = dict(re.findall(r"(?m)^(text|rodata|data|bss) (\w+) ", (folder / "map").read_text()))
+    (folder / "script").write_text(SCRIPT % tuple(int(regions[it], 16) for it in ("text", "rodata", "data", "bss")))
+    call(folder, f"{GNU}ld --no-relax {more} -T script -o gnu start-gnu.o first-gnu.o second-gnu.o")
+    came, wanted = (sections((folder / it).read_bytes()) for it in ("prog", "gnu"))
+    names = [it for it in {*came, *wanted} if it.startswith(".debug_") and (came.get(it) or wanted.get(it))]
+    return [it for it in sorted(names) if came.get(it) != wanted.get(it)]
+
+
+def misplaced(folder):
+    """The functions that the debug information of a relaxed program has at other addresses than the symbols of all."""
+    call(folder, f"{RV} ld -g -o relaxed --map map start.o first.o second.o")
+    said = call(folder, f"{GNU}readelf --debug-dump=info relaxed")
+    globals_ = dict(re.findall(r"(?m)^global (\w+) (\w+)$", (folder / "map").read_text()))
+    entries = re.findall(r"DW_TAG_subprogram\)\n((?:    <.*\n)*)", said)
+    found = {}
+    for entry in entries:
+        name, place = re.search(r"DW_AT_name .*?(\w+)\n", entry), re.search(r"DW_AT_low_pc +: 0x(\w+)", entry)
+        if name and place:
+            found[name[1]] = int(place[1], 16)
+    wanted = {"main", "twice", "never_called", "never_either"}
+    return [it for it in sorted(wanted) if found.get(it) != int(globals_[it], 16)]
+
+
+def main():
+    if not shutil.which(f"{GNU}gcc"):
+        print(f"no {GNU}gcc: nothing tested")
+        print("0 passed, 0 failed")
+        return 0
+    passed = failed = 0
+    for words in WORDS:
+        with tempfile.TemporaryDirectory() as name:
+            folder = Path(name)
+            compile_all(folder, words)
+            for what, wrong in (
+                ("all", compared(folder, "")),
+                ("what is reached", compared(folder, "--gc-sections")),
+                ("relaxed", misplaced(folder)),
+            ):
+                passed += not wrong
+                failed += bool(wrong)
+                if wrong:
+                    print(f"{words}, {what}: {' '.join(wrong)}")
+    print(f"{passed} passed, {failed} failed")
+    return int(failed > 0)
+
+
+if __name__ == "__main__":
+    sys.exit(main())
