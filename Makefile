@@ -14,7 +14,7 @@
 # make reached     lists the functions of rv that no case of tests/ reaches
 # make bench       measures rv beside GNU's tools, qemu-riscv64 and an interpreter in C, where they are installed,
 #                  and prints the table of targets last
-# make growth      draws how their times grow: bench/growth.svg
+# make growth      draws how time and memory grow: bench/growth.svg
 # make install     PREFIX=/usr/local by default; the proved program, which it proves first unless make has, the man
 #                  page and the completions of shells, and an assembler for gcc -B PREFIX/libexec/rv/
 #                  and the library, its header, and rv.pc for pkg-config (make install-library: these alone)
@@ -97,6 +97,7 @@ check: rv
 	tests/streams.py
 	tests/editors.py
 	tests/gdb.py
+	tests/carried.py
 	tests/making.py
 	tests/page.py --make
 	scripts/links.py

@@ -1,12 +1,14 @@
 #!/usr/bin/env python3
 """Counts the blocks of code, to see which crates and functions are dear before anything is proved.
 
-usage: blocks.py [CRATE]
+usage: blocks.py [CRATE..]
+       blocks.py --test CRATE
 
-A check goes through 3 to 10 blocks in a processor second. This lowers rv_cli, as quick.py does, and prints for each
-crate, or for each function of one that has 20 blocks or more, its blocks, how many values it drops, and its name, those
-with the most first. What drops a local stands at each way out of the function behind it, so many drops in a short
-function say that another one should own the value. A generic function stands there once for each type that it is for.
+A check goes through 3 to 10 blocks in a processor second. This lowers rv_cli, as quick.py does, or the tests of a
+crate, and prints for each crate, and then for each function of the crates named that has 20 blocks or more, its blocks,
+how many values it drops, and its name, those with the most first. What drops a local stands at each way out of the
+function behind it, so many drops in a short function say that another one should own the value. A generic function
+stands there once for each type that it is for.
 """
 
 import re
@@ -37,19 +39,21 @@ def functions(module):
                 drops += 1
 
 
-def main(crate=None):
+def main(*words):
+    test = words[:1] == ("--test",)
+    crates = words[test:]
     blocks, drops, found = Counter(), Counter(), []
     with tempfile.TemporaryDirectory(prefix="blocks-") as room:
-        for count, dropped, name in functions(kit.lowered(PROGRAM, room)):
+        for count, dropped, name in functions(kit.lowered(crates[0] if test else PROGRAM, room, test=test)):
             owner = CRATE.match(name)
             if not owner:
                 continue
             blocks[owner[1]] += count
             drops[owner[1]] += dropped
-            if owner[1] == crate and LEAST <= count:
+            if owner[1] in crates and LEAST <= count:
                 found.append((count, dropped, name))
-    rows = sorted(found, reverse=True) if crate else [(blocks[it], drops[it], it) for it, _ in blocks.most_common()]
-    for count, dropped, name in rows:
+    rows = [(blocks[it], drops[it], it) for it, _ in blocks.most_common()]
+    for count, dropped, name in rows + sorted(found, reverse=True):
         print(f"{count:5} {dropped:5} {name}")
 
 

@@ -45,7 +45,7 @@ def stop_without_room():
 
 def change(rt):
     """Changes the kit's module, here alone."""
-    edits.try_by_function(rt)
+    edits.try_together(rt)
     library.build_in_gate(rt)
 
 

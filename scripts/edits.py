@@ -1,20 +1,25 @@
-"""Tries must-fail edits by the functions that they change.
+"""Tries the must-fail edits of a crate together, by the functions that they change.
 
-The kit checks the whole crate with each edit, so the first edit of a crate costs the crate's proof once more. But an
-edit is refused by the proof of a function that it changes, or of one above, and `--only` asks for the first alone: what
-is refused so is refused in the whole crate as well, because a whole check proves each of its functions. An edit that
-`--only` does not refuse, or cannot find, is tried as the kit tries it.
+The kit checks the whole crate with each edit. But an edit is refused by the proof of a function that it changes, or of
+one above, and `--only` asks for the first alone: what is refused so is refused in the whole crate as well, because a
+whole check proves each of its functions. And a proof takes only contracts of other functions, so one check, which loads
+the libraries once, tries the edits of different functions. A function that calls a refused one is not tried beside it,
+so its edit waits for the next round. What no round refuses is tried as the kit tries it.
 """
 
 import difflib
 import os
 import re
+import shutil
+import subprocess
 import tempfile
 
 import kit
 
 FUNCTION = re.compile(r"( *)(?:pub(?:\([^)]*\))? |const |unsafe )*fn (\w+)")
 OF_ONLY = re.compile(r"only=\d+ proved=\d+")
+# A function whose own proof fails, and not that of one that it calls.
+FAILS = re.compile(r"fn \w+::(\S+): (?:no proof|not proved)(?!.*\bit calls\b)")
 
 
 def changed_functions(folder, texts):
@@ -39,14 +44,17 @@ def changed_lines(lines, others):
 
 
 def function_around(path, lines, at):
-    """The path of the function that a line stands in; None where it stands in none."""
+    """The path of the function in whose body a line stands; None where it stands in none, or in the head of one."""
     for start in range(at, -1, -1):
         head = FUNCTION.match(lines[start])
         if head:
             ends = f"{head[1]}}}"
-            if any(it == ends for it in lines[start + 1 : at]):
+            begins = re.compile(rf"{head[1]}(?! ).*{{")
+            body = next(it for it in range(start, len(lines)) if begins.fullmatch(lines[it]))
+            if at <= body or any(it == ends for it in lines[start + 1 : at]):
                 return None
-            return "::".join([*modules(path), *owner(lines, start, head[1]), head[2]])
+            # (a check names a method by its type's module, which may be another, and takes the end of a name)
+            return "::".join([*(owner(lines, start, head[1]) or modules(path)), head[2]])
     return None
 
 
@@ -65,83 +73,108 @@ def owner(lines, at, indent):
     return []
 
 
-class Kept(str):
-    """The folder of what checks kept, and the functions that a check over it is asked for."""
+class Rounds:
+    """The edits of a crate, as many in one check as change different functions, each round over what the earlier ones
+    kept in a folder, if there is one."""
 
-    def __new__(cls, folder, paths):
-        kept = super().__new__(cls, folder)
-        kept.paths = paths
-        return kept
+    def __init__(self, rt, check, crate, flags, kept=None):
+        self.rt, self.check, self.crate, self.flags, self.kept = rt, check, crate, flags, kept
+        self.functions, self.is_used = set(), False
+
+    def refused(self, edits):
+        """What is said of each edit that a round refuses, by its file."""
+        told, left = {}, [*edits]
+        while left:
+            found = self.round(*self.together(left))
+            told |= found
+            left = [it for it in left if it not in told]
+            self.is_used = self.is_used or bool(left)
+            if not found:
+                break
+        return told
+
+    def together(self, edits):
+        """The texts that as many of the edits make of the crate's files as change other functions, and these functions
+        by the edits."""
+        made, functions = {}, {}
+        with tempfile.TemporaryDirectory(prefix="rt-edits-") as room:
+            shutil.copytree(f"{self.crate.folder}/src", f"{room}/src")
+            for edit in edits:
+                paths = paths_of(self.rt, self.crate, edit)
+                texts, why = self.rt.read_edit(edit, room) if paths else ({}, "it changes something else")
+                if not why and paths.isdisjoint(it for of in functions.values() for it in of):
+                    functions[edit] = paths
+                    made |= texts
+                    for path, text in texts.items():
+                        with open(f"{room}/{path}", "w", encoding="utf-8") as it:
+                            it.write(text)
+        return made, functions
+
+    def round(self, texts, functions):
+        """What is said of each of these edits that a check with all of them refuses."""
+        if not functions:
+            return {}
+        lines = self.checked(texts, functions.values()).stdout.rstrip("\n").split("\n")
+        if not OF_ONLY.fullmatch(lines[-1]) or any(self.rt.unread(it, texts) for it in lines):
+            return {}
+        fails = {f"::{it[1]}": it.string for it in map(FAILS.match, lines) if it}
+        told = {
+            edit: [line for it, line in fails.items() if any(it.endswith(f"::{path}") for path in paths)]
+            for edit, paths in functions.items()
+        }
+        label = f"must-fail {self.crate.name}/"
+        return {
+            it: f"{label}{os.path.basename(it)}: refused, as it must be: {why[0]}" for it, why in told.items() if why
+        }
+
+    def checked(self, texts, functions):
+        """The check of these functions alone, with some texts changed."""
+        self.functions.update(*functions)
+        only = [word for it in sorted(set().union(*functions)) for word in ("--only", it)]
+        return self.check(self.crate, texts, [*self.flags, *only], self.kept)
+
+    def as_it_stands(self):
+        """The check of all that the edits change, without them, over what the rounds kept, if anything used that."""
+        return self.checked({}, [self.functions]) if self.is_used else subprocess.CompletedProcess([], 0, "")
 
 
-def by_function(check):
-    """The kit's check of a crate with some texts changed, of certain functions alone where a Kept names them."""
-
-    def checked(crate, texts, flags, kept):
-        if not isinstance(kept, Kept):
-            return check(crate, texts, flags, kept)
-        ran = check(crate, texts, [*flags, *(word for it in sorted(kept.paths) for word in ("--only", it))], kept)
-        lines = ran.stdout.rstrip("\n").split("\n")
-        # (the last line as it is of a whole check that refuses)
-        if ran.returncode == 1 and OF_ONLY.fullmatch(lines[-1]):
-            ran.stdout = "\n".join([*lines[:-1], f"logic=not-proved {lines[-1]}"])
-        return ran
-
-    return checked
-
-
-def try_by_function(rt):
-    """Changes the kit's module, here alone, so that it tries edits so, and in its own way those not refused so."""
-    (over_seeds if hasattr(rt, "seeded") else in_one_folder)(rt)
-
-
-def over_seeds(rt):
-    """The same with a kit that tries each edit over a copy of what a check of the crate proved, its seed: here the seed
-    is what the functions that the edits change need, and it has to serve these functions again in the end."""
-    of_whole_crate, whole_seed, check, asked = rt.must_fail, rt.seeded, by_function(rt.checked), {}
-
-    def checked(crate, texts, flags, kept):
-        is_seed = not texts and kept in asked
-        return check(crate, texts, flags, Kept(kept, asked[kept]) if is_seed else kept)
+def try_together(rt):
+    """Changes the kit's module, here alone, so that it tries edits so. The kit tries those of a crate over a seed, a
+    folder of what its check kept, which in the end has to serve the crate as it stands: here the rounds make the seed.
+    """
+    if not hasattr(rt, "seeded"):
+        return
+    of_whole_crate, check, told, rounds = rt.must_fail, rt.checked, {}, {}
 
     def seeded(crate, flags, start=None):
-        paths = [paths_of(rt, crate, it) for it in rt.edits_of(crate)[0]]
-        if start or not all(paths):
-            return whole_seed(crate, flags, start)
         room = tempfile.mkdtemp(prefix=f"rt-edits-{os.getpid()}-")
         rt.SEEDS.append(room)
         seed = f"{room}/seed"
-        os.mkdir(seed)
-        asked[seed] = set().union(*paths)
-        return whole_seed(crate, flags) if checked(crate, {}, flags, seed).returncode else room
+        if start:
+            rt.linked(start, seed)
+        else:
+            os.mkdir(seed)
+        rounds[seed] = Rounds(rt, check, crate, flags, seed)
+        rounds[seed].is_used = bool(start)
+        told.update(rounds[seed].refused(rt.edits_of(crate)[0]))
+        return room
 
     def must_fail(crate, edit, flags, kept=None):
-        paths = paths_of(rt, crate, edit)
-        tried = of_whole_crate(crate, edit, flags, Kept(kept or "", paths)) if paths else ("", "")
-        return tried if tried[0] == rt.REFUSED else of_whole_crate(crate, edit, flags, kept)
+        if edit not in told and not kept:
+            told.update(Rounds(rt, check, crate, flags).refused([edit]))
+        return (rt.REFUSED, told[edit]) if edit in told else of_whole_crate(crate, edit, flags, kept)
 
-    rt.checked, rt.seeded, rt.must_fail = checked, seeded, must_fail
+    def checked(crate, texts, flags, kept):
+        own = rounds.get(kept)
+        if texts or not own:
+            return check(crate, texts, flags, kept)
+        ran = own.as_it_stands()
+        if ran.returncode:
+            for it in rt.edits_of(crate)[0]:
+                told.pop(it, None)
+        return ran
 
-
-def in_one_folder(rt):
-    """The same with a kit that tries a crate's edits one after the other over what the earlier ones kept."""
-    of_whole_crate, rt.checked = rt.must_fail_all, by_function(rt.checked)
-
-    def must_fail_all(crate, edits, flags):
-        paths = [paths_of(rt, crate, it) for it in edits]
-        with tempfile.TemporaryDirectory(prefix="rt-edits-") as folder:
-            tried = [
-                rt.must_fail(crate, edit, flags, Kept(folder, of)) if of else (False, "")
-                for edit, of in zip(edits, paths)
-            ]
-            every = set().union(*paths)
-            # (what they are refused over has to serve the crate as it is)
-            is_sound = bool(every) and rt.checked(crate, {}, flags, Kept(folder, every)).returncode == 0
-        left = [edit for edit, it in zip(edits, tried) if not (is_sound and it[0])]
-        again = dict(zip(left, of_whole_crate(crate, left, flags)))
-        return [again.get(edit, it) for edit, it in zip(edits, tried)]
-
-    rt.must_fail_all = must_fail_all
+    rt.seeded, rt.must_fail, rt.checked = seeded, must_fail, checked
 
 
 def paths_of(rt, crate, edit):

@@ -139,6 +139,11 @@ def table(lines, seen, spent, clock):
     yield f"{clock / 60:.0f} minutes on {cores} cores, {spent / 60:.0f} processor minutes ({round(spent):,} seconds)"
 
 
+def spent():
+    """What the last run took, the last line of its table."""
+    return REPORT.read_text().splitlines()[-1]
+
+
 def measured(words):
     """Runs the command and writes the table; the command's status and its output."""
     status, lines, seen, spent, clock = run(words)

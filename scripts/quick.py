@@ -5,7 +5,8 @@ usage: quick.py PROGRAM FILE
 
 `rt try` makes a module of LLVM of the program and all libraries below it. Here it loses what was added for trying, and
 what nothing but that reads, and is compiled and linked as `rt run` does it with what is proved. So the code is that of
-the proved program, but for a test of the processor at the start. `rv --version` says that nothing is proved.
+the proved program, but for a test of the processor at the start. `rv --version` says that nothing is proved; other
+programs, those of tests, say nothing of it.
 """
 
 import os
@@ -22,6 +23,8 @@ from itertools import takewhile
 import kit
 import marks
 
+# The program whose `--version` says whether it is proved.
+MARKED = "rv_cli"
 REGISTER = re.compile(r"%[\w.$-]+")
 # A line that only makes a value, and one that only writes, into a local if nothing reads it.
 VALUE = re.compile(
@@ -234,7 +237,10 @@ def main(program, file):
             turned(module, f"{room}/turned.ll")
         with step("3 of 3  optimizes the whole, compiles and links", 105):
             built = kit.linked("turned.ll", room)
-        marks.mark(built, file, marks.UNPROVED)
+        if program == MARKED:
+            marks.mark(built, file, marks.UNPROVED)
+        else:
+            shutil.copy(built, file)
     print(f"{file}: NOT PROVED, made in {processor_seconds():.0f} processor seconds", flush=True)
 
 

@@ -5,8 +5,9 @@ First `rt ci` (ci.py), with what each crate cost (gate_times.py): every proof fr
 be refused, the tests of the library. Then, over the programs and the library that it built, the cases of tests/, the
 programs in other languages that call the library, and each request for memory refused; and the links of the
 documents, where want of memory is made, that a word of the definitions leads to one thing, what each storey names,
-which lemmas stand twice, and that the list of definitions and the lines on modules are today's. The last line sums all
-up as 'N passed, M failed'; the exit status is 0 if nothing failed.
+which lemmas stand twice, and that the list of definitions and the lines on modules are today's. The last lines name each
+script where something failed, with what it wrote of that, say what the proofs took, and sum all up as 'N passed, M
+failed'; the exit status is 0 if nothing failed.
 """
 
 import re
@@ -36,6 +37,7 @@ OF_PROGRAMS = [
     ["tests/streams.py"],
     ["tests/editors.py"],
     ["tests/gdb.py"],
+    ["tests/carried.py"],
     ["tests/making.py"],
     ["tests/page.py"],
     ["tests/refused.py"],
@@ -58,12 +60,23 @@ def counts(line):
     return (int(found[1]), int(found[2])) if found else (0, 1)
 
 
+# How many of the lines that a script wrote stand at the end once more, where something failed.
+SHOWN_AGAIN = 20
+
+
+def outcome(words, status, lines):
+    """The numbers of the last line, and what stands at the end of the whole: nothing unless something failed."""
+    passed, failed = counts(lines[-1].strip() if lines else "")
+    failed = failed or int(status != 0)
+    again = [f"== {' '.join(words)}", *(it.rstrip("\n") for it in lines[-SHOWN_AGAIN:])] if failed else []
+    return passed, failed, again
+
+
 def result(words):
-    """Runs a script of the repository, shows what it writes, and gives the numbers of its last line."""
+    """Runs a script of the repository, shows what it writes, and gives its outcome."""
     process = subprocess.run([sys.executable, *words], cwd=ROOT, stdout=subprocess.PIPE, text=True)
     print(f"== {words[0]}\n{process.stdout}", end="", flush=True)
-    passed, failed = counts((process.stdout.splitlines() or [""])[-1])
-    return passed, failed or int(process.returncode != 0)
+    return outcome(words, process.returncode, process.stdout.splitlines())
 
 
 def copy(built, program, by=shutil.copy):
@@ -75,8 +88,7 @@ def copy(built, program, by=shutil.copy):
 
 def main():
     status, lines = gate_times.measured([sys.executable, "scripts/ci.py"])
-    passed, failed = counts(lines[-1].strip() if lines else "")
-    sums = [(passed, failed or int(status != 0))]
+    outcomes = [outcome(["rt", "ci"], status, lines)]
     copy(ROOT / "crates/rv_cli/out/rv_cli", PROVED, marks.mark)
     copy(PROVED, ROOT / "rv")
     copy(ROOT / "crates/rv_refusal_tests/out/rv_refusal_tests", ROOT / "rv_refusal_tests")
@@ -85,8 +97,9 @@ def main():
     if library.ARCHIVE.exists():
         library.join(library.ARCHIVE, library.FOLDER)
         scripts += OF_LIBRARY
-    sums += [result(words) for words in scripts]
-    passed, failed = map(sum, zip(*sums))
+    outcomes += [result(words) for words in scripts]
+    print(*(line for *_, again in outcomes for line in again), "", gate_times.spent(), sep="\n")
+    passed, failed = (sum(it[at] for it in outcomes) for at in (0, 1))
     print(f"\n{passed} passed, {failed} failed", flush=True)
     return 1 if failed else 0
 
