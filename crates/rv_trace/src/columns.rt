@@ -16,6 +16,12 @@ pub(crate) fn put(text: &mut Vec<u8>, added: &str) -> Result<(), AllocError> {
     Ok(())
 }
 
+/// Adds a name.
+pub(crate) fn put_name(text: &mut Vec<u8>, name: &[u8]) -> Result<(), AllocError> {
+    text.extend_from_slice(name)?;
+    Ok(())
+}
+
 /// Adds a number of `bytes` bytes, at most eight, in hexadecimal, two digits a byte.
 pub(crate) fn put_fixed(text: &mut Vec<u8>, number: u64, bytes: u64) -> Result<(), AllocError> {
     let digits = digits_of(number);
@@ -150,30 +156,6 @@ pub(crate) fn fill_column(
     put_blanks(text, width.saturating_sub(used).saturating_add(1))
 }
 
-/// Adds a count and what it is of, from the left.
-pub(crate) fn put_count(
-    text: &mut Vec<u8>,
-    indent: usize,
-    name: &str,
-    count: u64,
-) -> Result<(), AllocError> {
-    let start = text.len();
-    put_blanks(text, indent)?;
-    put(text, name)?;
-    fill_column(text, start, 24)?;
-    put_right(text, count, 16)
-}
-
-/// Adds how much a count is of a whole, in percent, rounded to one digit after the point.
-pub(crate) fn put_share(text: &mut Vec<u8>, count: u64, whole: u64) -> Result<(), AllocError> {
-    let thousands = count.saturating_mul(1000).saturating_add(whole / 2);
-    let tenths = thousands.checked_div(whole).unwrap_or(0);
-    put_right(text, tenths / 10, 8)?;
-    text.push(b'.')?;
-    put_decimal(text, tenths % 10)?;
-    put(text, " %")
-}
-
 /// Adds a symbol and how far behind it an address is, as `f+0x4`; nothing where no symbol is known.
 pub(crate) fn put_near(
     text: &mut Vec<u8>,
@@ -182,10 +164,10 @@ pub(crate) fn put_near(
     let Some(near) = near else {
         return Ok(());
     };
-    text.extend_from_slice(near.name)?;
-    if near.distance > 0 {
-        put(text, "+0x")?;
-        rv_map::put_hexadecimal(text, near.distance)?;
+    put_name(text, near.name)?;
+    if near.distance == 0 {
+        return Ok(());
     }
-    Ok(())
+    put(text, "+0x")?;
+    rv_map::put_hexadecimal(text, near.distance)
 }

@@ -1,7 +1,8 @@
 //! What cures the end of a run, as the table of faults and ends has it.
 
-use crate::columns::put;
 use crate::ending::Ending;
+use crate::parts::Part::Text;
+use crate::parts::put_parts;
 use rv_fault_texts::explanation;
 use rv_machine::End;
 use std::alloc::AllocError;
@@ -17,9 +18,10 @@ pub(crate) fn put_cure(text: &mut Vec<u8>, ending: Ending) -> Result<(), AllocEr
     let Some(entry) = explanation(ending.name()) else {
         return Ok(());
     };
-    put(text, "cure\n  ")?;
-    put(text, last_part(entry))?;
-    put(text, "\n")
+    put_parts(
+        text,
+        &[Text("cure\n  "), Text(last_part(entry)), Text("\n")],
+    )
 }
 
 /// What stands in an entry behind the beginning of its cure.

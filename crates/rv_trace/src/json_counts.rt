@@ -1,12 +1,13 @@
 //! The counts of a run as programs read them.
 
 use crate::ending::Ending;
-use crate::json_report::{file, line_of, put_near};
+use crate::json_report::{file_name, line_of, put_near};
 use crate::lines::{Covered, coverage};
+use crate::members::Held::{Name, Number, NumberOrNull, Text};
+use crate::members::put_members;
 use crate::places::Places;
 use crate::summary::{calls, mnemonics};
 use rv_counts::{CallCount, Counts, Totals};
-use rv_json::{number, number_or_null};
 use serde_json::{Map, Value, push, put};
 use std::alloc::{AllocError, Global};
 
@@ -33,50 +34,59 @@ fn put_counts(
     ending: Ending,
     lines: bool,
 ) -> Result<(), AllocError> {
-    put_totals(alloc, object, counts)?;
-    let end = Value::try_from_str(alloc, ending.name())?;
-    put(object, alloc, "end", end)?;
-    let status = number_or_null(alloc, ending.status())?;
-    put(object, alloc, "status", status)?;
-    put(object, alloc, "kinds", kinds(alloc, &counts.totals())?)?;
-    put(object, alloc, "mnemonics", executions(alloc, counts)?)?;
-    put(object, alloc, "calls", called(alloc, counts, places)?)?;
+    put_sums(alloc, object, counts, ending)?;
+    put_tables(alloc, object, counts, places)?;
     if lines {
-        put(object, alloc, "lines", covered(alloc, counts, places)?)?;
+        return put(object, alloc, "lines", covered(alloc, counts, places)?);
     }
     Ok(())
 }
 
-/// Adds the sums.
-fn put_totals(
+/// Adds the counts of instructions by their kinds and mnemonics, and those of calls.
+fn put_tables(
     alloc: Global,
     object: &mut Map<String, Value>,
     counts: &Counts,
+    places: &Places<'_>,
+) -> Result<(), AllocError> {
+    put(object, alloc, "kinds", kinds(alloc, &counts.totals())?)?;
+    put(object, alloc, "mnemonics", executions(alloc, counts)?)?;
+    put(object, alloc, "calls", called(alloc, counts, places)?)
+}
+
+/// Adds the sums, and how the run ended.
+fn put_sums(
+    alloc: Global,
+    object: &mut Map<String, Value>,
+    counts: &Counts,
+    ending: Ending,
 ) -> Result<(), AllocError> {
     let totals = counts.totals();
     let branches = counts.branches();
-    let members = [
-        ("instructions", totals.executed),
-        ("compressed", totals.compressed),
-        ("loads", totals.loads),
-        ("bytes_read", totals.read),
-        ("stores", totals.stores),
-        ("bytes_written", totals.written),
-        ("branches_taken", branches.taken),
-        ("branches_not_taken", branches.untaken()),
-        ("deepest_stack", counts.deepest()),
-    ];
-    for (name, count) in members {
-        put(object, alloc, name, number(alloc, count)?)?;
-    }
-    Ok(())
+    put_members(
+        alloc,
+        object,
+        &[
+            ("instructions", Number(totals.executed)),
+            ("compressed", Number(totals.compressed)),
+            ("loads", Number(totals.loads)),
+            ("bytes_read", Number(totals.read)),
+            ("stores", Number(totals.stores)),
+            ("bytes_written", Number(totals.written)),
+            ("branches_taken", Number(branches.taken)),
+            ("branches_not_taken", Number(branches.untaken())),
+            ("deepest_stack", Number(counts.deepest())),
+            ("end", Text(ending.name())),
+            ("status", NumberOrNull(ending.status())),
+        ],
+    )
 }
 
 /// How many instructions of each kind were executed.
 fn kinds(alloc: Global, totals: &Totals) -> Result<Value, AllocError> {
     let mut object = Map::new(alloc);
     for (name, count) in totals.kinds.named() {
-        put(&mut object, alloc, name, number(alloc, count)?)?;
+        put_members(alloc, &mut object, &[(name, Number(count))])?;
     }
     Ok(Value::Object(object))
 }
@@ -85,8 +95,8 @@ fn kinds(alloc: Global, totals: &Totals) -> Result<Value, AllocError> {
 fn executions(alloc: Global, counts: &Counts) -> Result<Value, AllocError> {
     let mut object = Map::new(alloc);
     for executed in &mnemonics(alloc, counts)? {
-        let count = number(alloc, executed.count)?;
-        put(&mut object, alloc, executed.name, count)?;
+        let count = Number(executed.count);
+        put_members(alloc, &mut object, &[(executed.name, count)])?;
     }
     Ok(Value::Object(object))
 }
@@ -114,9 +124,15 @@ fn put_function(
     places: &Places<'_>,
     called: &CallCount,
 ) -> Result<(), AllocError> {
-    put(function, alloc, "address", number(alloc, called.address)?)?;
     put_near(alloc, function, places, called.address)?;
-    put(function, alloc, "count", number(alloc, called.count)?)
+    put_members(
+        alloc,
+        function,
+        &[
+            ("address", Number(called.address)),
+            ("count", Number(called.count)),
+        ],
+    )
 }
 
 /// The statements and how often each was executed.
@@ -142,8 +158,14 @@ fn put_executed(
     places: &Places<'_>,
     statement: &Covered,
 ) -> Result<(), AllocError> {
-    let file = file(alloc, places, statement.row.file)?;
-    put(executed, alloc, "file", file)?;
-    put(executed, alloc, "line", number(alloc, statement.row.line)?)?;
-    put(executed, alloc, "count", number(alloc, statement.count)?)
+    let file = file_name(alloc, places, statement.row.file)?;
+    put_members(
+        alloc,
+        executed,
+        &[
+            ("file", Name(file.as_slice())),
+            ("line", Number(statement.row.line)),
+            ("count", Number(statement.count)),
+        ],
+    )
 }

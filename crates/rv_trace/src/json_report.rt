@@ -1,21 +1,20 @@
 //! A report as programs read it.
-//!
-//! A function that owns an object of JSON drops it at each way out, and each want of memory is one. So members are added to
-//! an object that is lent.
 
 use crate::ending::Ending;
 use crate::last::registers;
-use crate::lines::put_file;
+use crate::members::Held::{Name, Null, Number, NumberOrNull, Text};
+use crate::members::put_members;
+use crate::parts::put_parts;
 use crate::places::Places;
 use crate::refusals::{Refusal, Refusals};
 use crate::report::{Bounds, Failed, Latest, Segments, failed_access, rights};
 use rv_disasm::{Targets, put_instruction};
 use rv_inspect::put_shortest;
 use rv_isa::Inst;
-use rv_json::{name, number, number_or_null, put_line};
+use rv_json::put_line;
 use rv_machine::{Fetched, Watched, bits_at, spelled};
 use rv_memory::Memory;
-use serde_json::{Map, Value, json, push, put};
+use serde_json::{Map, Value, push, put};
 use std::alloc::{AllocError, Global};
 
 /// How a run ended, as an object of JSON in a line: what [`report_text`](crate::report_text) says, and the end.
@@ -58,15 +57,26 @@ fn put_report<M: Memory>(
     ending: Ending,
 ) -> Result<(), AllocError> {
     put_end(alloc, report, ending)?;
-    put(report, alloc, "access", access(alloc, machine, ending)?)?;
-    let at = place(alloc, machine, places, machine.pc())?;
-    put(report, alloc, "at", at)?;
-    put(report, alloc, "registers", registers(alloc, machine)?)?;
+    put_machine(alloc, report, machine, places, ending)?;
     put(report, alloc, "segments", segments_of(alloc, segments)?)?;
     let refused = refused(alloc, machine, latest.refusals(), places)?;
     put(report, alloc, "refused", refused)?;
     let latest = latest_of(alloc, machine, latest, places)?;
     put(report, alloc, "latest", latest)
+}
+
+/// Adds the access that failed, where the run ended, and the registers.
+fn put_machine<M: Memory>(
+    alloc: Global,
+    report: &mut Map<String, Value>,
+    machine: &Watched<M>,
+    places: &Places<'_>,
+    ending: Ending,
+) -> Result<(), AllocError> {
+    put(report, alloc, "access", access(alloc, machine, ending)?)?;
+    let at = place(alloc, machine, places, machine.pc())?;
+    put(report, alloc, "at", at)?;
+    put(report, alloc, "registers", registers(alloc, machine)?)
 }
 
 /// Adds how a run ended: the name of the end, the status of an exit, and the address of the end.
@@ -75,12 +85,15 @@ pub(crate) fn put_end(
     members: &mut Map<String, Value>,
     ending: Ending,
 ) -> Result<(), AllocError> {
-    let end = Value::try_from_str(alloc, ending.name())?;
-    put(members, alloc, "end", end)?;
-    let status = number_or_null(alloc, ending.status())?;
-    put(members, alloc, "status", status)?;
-    let address = number_or_null(alloc, ending.address())?;
-    put(members, alloc, "address", address)
+    put_members(
+        alloc,
+        members,
+        &[
+            ("end", Text(ending.name())),
+            ("status", NumberOrNull(ending.status())),
+            ("address", NumberOrNull(ending.address())),
+        ],
+    )
 }
 
 /// The access that failed: what it was, and its bytes; null where none did.
@@ -94,8 +107,19 @@ fn access<M: Memory>(
     };
     match failed_access(&end, machine) {
         None => Ok(Value::Null),
-        Some(Failed { kind, bytes }) => json!(in alloc; { "kind": kind, "bytes": bytes }),
+        Some(failed) => access_of(alloc, &failed),
     }
+}
+
+/// An access that failed.
+fn access_of(alloc: Global, failed: &Failed) -> Result<Value, AllocError> {
+    let mut access = Map::new(alloc);
+    put_members(
+        alloc,
+        &mut access,
+        &[("kind", Text(failed.kind)), ("bytes", Number(failed.bytes))],
+    )?;
+    Ok(Value::Object(access))
 }
 
 /// An address with its symbol, its statement and the instruction that stands there, as far as they are known.
@@ -118,7 +142,7 @@ fn put_place<M: Memory>(
     places: &Places<'_>,
     address: u64,
 ) -> Result<(), AllocError> {
-    put(place, alloc, "address", number(alloc, address)?)?;
+    put_members(alloc, place, &[("address", Number(address))])?;
     put_near(alloc, place, places, address)?;
     put_statement(alloc, place, places, address)?;
     put_names(alloc, place, machine, address)
@@ -131,11 +155,15 @@ pub(crate) fn put_near(
     places: &Places<'_>,
     address: u64,
 ) -> Result<(), AllocError> {
-    let Some(near) = places.symbol_at(address) else {
-        return put_nulls(alloc, members, "symbol", "distance");
+    let (symbol, distance) = match places.symbol_at(address) {
+        Some(near) => (Name(near.name), Number(near.distance)),
+        None => (Null, Null),
     };
-    put(members, alloc, "symbol", name(alloc, near.name)?)?;
-    put(members, alloc, "distance", number(alloc, near.distance)?)
+    put_members(
+        alloc,
+        members,
+        &[("symbol", symbol), ("distance", distance)],
+    )
 }
 
 /// Adds the file and the line of the statement at an address.
@@ -146,10 +174,14 @@ fn put_statement(
     address: u64,
 ) -> Result<(), AllocError> {
     let Some(row) = places.row_at(address) else {
-        return put_nulls(alloc, place, "file", "line");
+        return put_members(alloc, place, &[("file", Null), ("line", Null)]);
     };
-    put(place, alloc, "file", file(alloc, places, row.file)?)?;
-    put(place, alloc, "line", number(alloc, row.line)?)
+    let file = file_name(alloc, places, row.file)?;
+    put_members(
+        alloc,
+        place,
+        &[("file", Name(file.as_slice())), ("line", Number(row.line))],
+    )
 }
 
 /// Adds the instruction at an address as its base instruction and by its shortest name.
@@ -160,46 +192,54 @@ fn put_names<M: Memory>(
     address: u64,
 ) -> Result<(), AllocError> {
     let Some(bits) = bits_at(machine.memory(), address) else {
-        return put_nulls(alloc, place, "instruction", "alias");
+        return put_no_names(alloc, place);
     };
     let Fetched::Got(inst, _) = spelled(Some(bits)) else {
-        return put_nulls(alloc, place, "instruction", "alias");
+        return put_no_names(alloc, place);
     };
-    let instruction = instruction(alloc, address, inst)?;
-    put(place, alloc, "instruction", instruction)?;
-    put(place, alloc, "alias", alias(alloc, address, bits, inst)?)
+    put_base(alloc, place, address, inst)?;
+    put_alias(alloc, place, address, bits, inst)
 }
 
-/// Adds two members that are not known.
-fn put_nulls(
+/// Adds that no instruction stands at an address.
+fn put_no_names(alloc: Global, place: &mut Map<String, Value>) -> Result<(), AllocError> {
+    put_members(alloc, place, &[("instruction", Null), ("alias", Null)])
+}
+
+/// Adds an instruction as its base instruction.
+fn put_base(
     alloc: Global,
-    members: &mut Map<String, Value>,
-    first: &str,
-    second: &str,
+    place: &mut Map<String, Value>,
+    address: u64,
+    inst: Inst,
 ) -> Result<(), AllocError> {
-    put(members, alloc, first, Value::Null)?;
-    put(members, alloc, second, Value::Null)
-}
-
-/// The name of a file, or its number as a text where it has none.
-pub(crate) fn file(alloc: Global, places: &Places<'_>, number: u64) -> Result<Value, AllocError> {
-    let mut text = Vec::new(alloc);
-    put_file(&mut text, places, number)?;
-    name(alloc, text.as_slice())
-}
-
-/// An instruction as its base instruction.
-fn instruction(alloc: Global, address: u64, inst: Inst) -> Result<Value, AllocError> {
     let mut text = Vec::new(alloc);
     put_instruction(&mut text, Targets::Addresses(address), inst)?;
-    name(alloc, text.as_slice())
+    put_members(alloc, place, &[("instruction", Name(text.as_slice()))])
 }
 
-/// An instruction by its shortest name.
-fn alias(alloc: Global, address: u64, bits: u32, inst: Inst) -> Result<Value, AllocError> {
+/// Adds an instruction by its shortest name.
+fn put_alias(
+    alloc: Global,
+    place: &mut Map<String, Value>,
+    address: u64,
+    bits: u32,
+    inst: Inst,
+) -> Result<(), AllocError> {
     let mut text = Vec::new(alloc);
     put_shortest(&mut text, address, bits, inst)?;
-    name(alloc, text.as_slice())
+    put_members(alloc, place, &[("alias", Name(text.as_slice()))])
+}
+
+/// The name of a file, or its number where it has none.
+pub(crate) fn file_name(
+    alloc: Global,
+    places: &Places<'_>,
+    number: u64,
+) -> Result<Vec<u8>, AllocError> {
+    let mut text = Vec::new(alloc);
+    put_parts(&mut text, &[places.file(number)])?;
+    Ok(text)
 }
 
 /// The calls that were refused: each different one with how often and where first, and how many others there were.
@@ -212,8 +252,8 @@ fn refused<M: Memory>(
     let calls = refused_calls(alloc, machine, refusals, places)?;
     let mut refused = Map::new(alloc);
     put(&mut refused, alloc, "calls", calls)?;
-    let others = number(alloc, refusals.others())?;
-    put(&mut refused, alloc, "others", others)?;
+    let others = Number(refusals.others());
+    put_members(alloc, &mut refused, &[("others", others)])?;
     Ok(Value::Object(refused))
 }
 
@@ -253,9 +293,15 @@ fn put_refusal<M: Memory>(
     refusal: &Refusal,
     places: &Places<'_>,
 ) -> Result<(), AllocError> {
-    put(call, alloc, "call", number(alloc, refusal.number)?)?;
-    put(call, alloc, "a0", number_or_null(alloc, refusal.file)?)?;
-    put(call, alloc, "count", number(alloc, refusal.count)?)?;
+    put_members(
+        alloc,
+        call,
+        &[
+            ("call", Number(refusal.number)),
+            ("a0", NumberOrNull(refusal.file)),
+            ("count", Number(refusal.count)),
+        ],
+    )?;
     let at = place(alloc, machine, places, refusal.pc)?;
     put(call, alloc, "at", at)
 }
@@ -272,20 +318,16 @@ fn segments_of(alloc: Global, segments: &Segments) -> Result<Value, AllocError> 
 /// A segment.
 fn segment(alloc: Global, bounds: &Bounds) -> Result<Value, AllocError> {
     let mut segment = Map::new(alloc);
-    put_bounds(alloc, &mut segment, bounds)?;
+    put_members(
+        alloc,
+        &mut segment,
+        &[
+            ("start", Number(bounds.start)),
+            ("end", Number(bounds.end)),
+            ("rights", Text(rights(bounds.flags))),
+        ],
+    )?;
     Ok(Value::Object(segment))
-}
-
-/// Adds where a segment begins and ends, and its rights.
-fn put_bounds(
-    alloc: Global,
-    segment: &mut Map<String, Value>,
-    bounds: &Bounds,
-) -> Result<(), AllocError> {
-    put(segment, alloc, "start", number(alloc, bounds.start)?)?;
-    put(segment, alloc, "end", number(alloc, bounds.end)?)?;
-    let rights = Value::try_from_str(alloc, rights(bounds.flags))?;
-    put(segment, alloc, "rights", rights)
 }
 
 /// The latest instructions, the last one at the end.

@@ -6,11 +6,12 @@ ghost use Rattle.rv_counts.specs.Totals.{totals_of};
 use crate::digest::memory_digest;
 use crate::ending::Ending;
 use crate::json_report::{line_of, put_end};
+use crate::members::Held::{Number, Text};
+use crate::members::put_members;
 use crate::moved::add_span;
 use crate::report::{Latest, Segments};
 use rv_counts::Totals;
 use rv_isa::Reg;
-use rv_json::number;
 use rv_machine::{Event, Look, ShowFault, Watched, Watcher};
 use rv_memory::Memory;
 use serde_json::{Map, Value, put};
@@ -90,15 +91,29 @@ fn put_state<M: Memory>(
         ..
     } = last;
     put_end(alloc, state, ending)?;
-    put(state, alloc, "pc", number(alloc, machine.pc())?)?;
     put(state, alloc, "registers", registers(alloc, machine)?)?;
-    let instructions = number(alloc, totals.executed)?;
-    put(state, alloc, "instructions", instructions)?;
-    let digest = memory_digest(alloc, machine.memory(), segments)?;
-    let memory = Value::from(hex::encode(alloc, digest)?);
-    put(state, alloc, "memory", memory)?;
-    let console = Value::from(hex::encode(alloc, console.finalize())?);
-    put(state, alloc, "console", console)
+    let memory = memory_digest(alloc, machine.memory(), segments)?;
+    put_digest(alloc, state, "memory", memory)?;
+    put_digest(alloc, state, "console", console.finalize())?;
+    put_members(
+        alloc,
+        state,
+        &[
+            ("pc", Number(machine.pc())),
+            ("instructions", Number(totals.executed)),
+        ],
+    )
+}
+
+/// Adds a digest as a member.
+fn put_digest(
+    alloc: Global,
+    state: &mut Map<String, Value>,
+    name: &str,
+    digest: [u8; 32],
+) -> Result<(), AllocError> {
+    let text = hex::encode(alloc, digest)?;
+    put_members(alloc, state, &[(name, Text(text.as_str()))])
 }
 
 /// The registers by their names.
@@ -109,8 +124,12 @@ pub(crate) fn registers<M: Memory>(
     let mut registers = Map::new(alloc);
     for index in 0..32 {
         let register = Reg::from_low_bits(index);
-        let value = number(alloc, machine.register(register))?;
-        put(&mut registers, alloc, register.abi_name(), value)?;
+        let value = machine.register(register);
+        put_members(
+            alloc,
+            &mut registers,
+            &[(register.abi_name(), Number(value))],
+        )?;
     }
     Ok(Value::Object(registers))
 }

@@ -2,7 +2,9 @@
 //!
 //! A statement was executed as often as its first instruction. Statements that were never executed are shown with 0.
 
-use crate::columns::{put, put_decimal};
+use crate::columns::put;
+use crate::parts::Part::{Decimal, Text};
+use crate::parts::put_parts;
 use crate::places::Places;
 use rv_counts::Counts;
 use rv_map_laws::Row;
@@ -36,21 +38,31 @@ fn put_lines(
 ) -> Result<(), AllocError> {
     let mut never: u64 = 0;
     for statement in covered {
-        put_file(text, places, statement.row.file)?;
-        text.push(b':')?;
-        put_decimal(text, statement.row.line)?;
-        text.push(b' ')?;
-        put_decimal(text, statement.count)?;
-        text.push(b'\n')?;
+        put_parts(
+            text,
+            &[
+                places.file(statement.row.file),
+                Text(":"),
+                Decimal(statement.row.line),
+                Text(" "),
+                Decimal(statement.count),
+                Text("\n"),
+            ],
+        )?;
         if statement.count == 0 {
             never = never.saturating_add(1);
         }
     }
-    put(text, "never executed ")?;
-    put_decimal(text, never)?;
-    put(text, " of ")?;
-    put_decimal(text, covered.len() as u64)?;
-    put(text, " statements\n")
+    put_parts(
+        text,
+        &[
+            Text("never executed "),
+            Decimal(never),
+            Text(" of "),
+            Decimal(covered.len() as u64),
+            Text(" statements\n"),
+        ],
+    )
 }
 
 /// The lines as a tracefile of lcov, which `genhtml` draws. A line with several statements was executed as often as the one
@@ -74,61 +86,74 @@ fn put_tracefile(
     places: &Places<'_>,
 ) -> Result<(), AllocError> {
     put(text, "TN:\n")?;
-    let mut file = 0;
-    let mut found: u64 = 0;
-    let mut hit: u64 = 0;
+    let mut records = Records::of(0);
     for line in lines {
-        if line.row.file != file {
-            if file != 0 {
-                put_end(text, found, hit)?;
-            }
-            put(text, "SF:")?;
-            put_file(text, places, line.row.file)?;
-            text.push(b'\n')?;
-            file = line.row.file;
-            found = 0;
-            hit = 0;
+        if line.row.file != records.file {
+            records.put_end(text)?;
+            records = Records::of(line.row.file);
+            put_parts(text, &[Text("SF:"), places.file(line.row.file), Text("\n")])?;
         }
         put_data(text, line)?;
-        found = found.saturating_add(1);
-        if line.count > 0 {
-            hit = hit.saturating_add(1);
-        }
+        records.count(line);
     }
-    if file != 0 {
-        put_end(text, found, hit)?;
-    }
-    Ok(())
+    records.put_end(text)
 }
 
 /// Adds the record of a line: `DA:LINE,COUNT`.
 fn put_data(text: &mut Vec<u8>, line: &Covered) -> Result<(), AllocError> {
-    put(text, "DA:")?;
-    put_decimal(text, line.row.line)?;
-    text.push(b',')?;
-    put_decimal(text, line.count)?;
-    text.push(b'\n')?;
-    Ok(())
+    put_parts(
+        text,
+        &[
+            Text("DA:"),
+            Decimal(line.row.line),
+            Text(","),
+            Decimal(line.count),
+            Text("\n"),
+        ],
+    )
 }
 
-/// Adds the end of a file's records: how many lines there are, and how many were executed.
-fn put_end(text: &mut Vec<u8>, found: u64, hit: u64) -> Result<(), AllocError> {
-    put(text, "LF:")?;
-    put_decimal(text, found)?;
-    put(text, "\nLH:")?;
-    put_decimal(text, hit)?;
-    put(text, "\nend_of_record\n")
-}
-
-/// Adds the name of a file, or its number where it has none.
-pub(crate) fn put_file(
-    text: &mut Vec<u8>,
-    places: &Places<'_>,
+/// The records of a file, by its number: how many lines there are, and how many were executed.
+#[derive(Clone, Copy, Drop)]
+struct Records {
     file: u64,
-) -> Result<(), AllocError> {
-    match places.source_name(file) {
-        Some(name) => put(text, name),
-        None => put_decimal(text, file),
+    found: u64,
+    hit: u64,
+}
+
+impl Records {
+    /// Those of a file, 0 for none, before its first line.
+    fn of(file: u64) -> Self {
+        Records {
+            file,
+            found: 0,
+            hit: 0,
+        }
+    }
+
+    /// Counts a line.
+    fn count(&mut self, line: &Covered) {
+        self.found = self.found.saturating_add(1);
+        if line.count > 0 {
+            self.hit = self.hit.saturating_add(1);
+        }
+    }
+
+    /// Adds their end.
+    fn put_end(&self, text: &mut Vec<u8>) -> Result<(), AllocError> {
+        if self.file == 0 {
+            return Ok(());
+        }
+        put_parts(
+            text,
+            &[
+                Text("LF:"),
+                Decimal(self.found),
+                Text("\nLH:"),
+                Decimal(self.hit),
+                Text("\nend_of_record\n"),
+            ],
+        )
     }
 }
 

@@ -1,8 +1,9 @@
 //! The memory around an address, and the stack, as they are when a run ends.
 
-use crate::columns::{put, put_fixed, put_small};
+use crate::columns::put;
+use crate::parts::Part::{Fixed, Small, Symbol, Text};
+use crate::parts::put_parts;
 use crate::places::Places;
-use crate::report::put_symbol;
 use rv_image::{STACK_BYTES, STACK_START};
 use rv_isa::Reg;
 use rv_machine::Watched;
@@ -18,13 +19,16 @@ const BELOW: u64 = 2;
 
 const DOUBLES: u64 = 10;
 
-/// Adds the words around the address of an access, as far as they may be read.
+/// Adds the words around the address of an access, if there is one, as far as they may be read.
 pub(crate) fn put_words_around<M: Memory>(
     text: &mut Vec<u8>,
     machine: &Watched<M>,
     places: &Places<'_>,
-    address: u64,
+    address: Option<u64>,
 ) -> Result<(), AllocError> {
+    let Some(address) = address else {
+        return Ok(());
+    };
     let aligned = address.wrapping_sub(address % 4);
     let mut has_heading = false;
     for number in 0..WORDS {
@@ -69,18 +73,19 @@ fn put_word(
     value: (u64, u64),
     is_wanted: bool,
 ) -> Result<(), AllocError> {
-    put(text, if is_wanted { "> " } else { "  " })?;
-    put_fixed(text, address, 8)?;
-    text.push(b' ')?;
-    put_fixed(text, value.0, value.1)?;
-    put_small(text, signed(value))?;
-    if value.1 == 8 {
-        put_symbol(text, places, value.0)?;
-    } else {
-        put_symbol(text, places, address)?;
-    }
-    text.push(b'\n')?;
-    Ok(())
+    let pointer = if value.1 == 8 { value.0 } else { address };
+    put_parts(
+        text,
+        &[
+            Text(if is_wanted { "> " } else { "  " }),
+            Fixed(address, 8),
+            Text(" "),
+            Fixed(value.0, value.1),
+            Small(signed(value)),
+            Symbol(places.symbol_at(pointer)),
+            Text("\n"),
+        ],
+    )
 }
 
 /// A value of so many bytes with its sign, modulo 2^64.

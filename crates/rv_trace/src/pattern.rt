@@ -1,7 +1,9 @@
 //! The line of an instruction, made once: what all its lines have, with blanks for the digits that differ.
 
 use crate::access::{Access, access_of, destination};
-use crate::columns::{DECIMAL, fill_column, put, put_blanks, put_decimal, put_fixed, put_near};
+use crate::columns::{DECIMAL, fill_column, put, put_blanks, put_fixed, put_near};
+use crate::parts::Part::{Decimal, Fixed, Name, Text};
+use crate::parts::put_parts;
 use crate::places::Places;
 use crate::visited::VisitedInstruction;
 use rv_inspect::put_shortest;
@@ -22,6 +24,8 @@ const EFFECT: usize = 69;
 const FRONT: usize = 8;
 
 const BACK: usize = SYMBOL - 2 - FRONT;
+/// The room of the address of an access.
+const ADDRESS: &str = "[                ]";
 /// Where the effects of an instruction begin in its line.
 const BEFORE_EFFECT: usize = COUNT + 1 + 16 + 1 + SYMBOL + 1 + BYTES + 1 + TEXT;
 /// Where the source begins.
@@ -125,10 +129,15 @@ fn put_bare(
     visited: &VisitedInstruction,
 ) -> Result<(), AllocError> {
     put_blanks(text, COUNT + 1)?;
-    put_fixed(text, visited.pc, 8)?;
-    text.push(b' ')?;
+    put_parts(text, &[Fixed(visited.pc, 8), Text(" ")])?;
     put_symbol(text, places, visited.pc)?;
-    let bytes = text.len();
+    put_bytes(text, visited)?;
+    put_shortest(text, visited.pc, visited.bits, visited.inst)
+}
+
+/// Adds the bytes of an instruction and blanks up to the next column.
+fn put_bytes(text: &mut Vec<u8>, visited: &VisitedInstruction) -> Result<(), AllocError> {
+    let start = text.len();
     for byte in visited
         .bits
         .to_le_bytes()
@@ -137,8 +146,7 @@ fn put_bare(
     {
         put_fixed(text, u64::from(*byte), 1)?;
     }
-    fill_column(text, bytes, BYTES)?;
-    put_shortest(text, visited.pc, visited.bits, visited.inst)
+    fill_column(text, start, BYTES)
 }
 
 /// Adds the symbol of an address and blanks up to the next column.
@@ -158,9 +166,7 @@ fn leave_out_middle(text: &mut Vec<u8>, start: usize) -> Result<(), AllocError> 
         back = *last;
     }
     text.truncate(start.saturating_add(FRONT));
-    put(text, "..")?;
-    text.extend_from_slice(&back)?;
-    Ok(())
+    put_parts(text, &[Text(".."), Name(back.as_slice())])
 }
 
 /// Adds the room of the effects to a line that began at an offset, as `a0 <- .. [..] <- ..`.
@@ -173,12 +179,7 @@ fn put_effects(text: &mut Vec<u8>, start: usize, inst: Inst) -> Result<Effects, 
     }
     let value = put_written(text, written)?.saturating_sub(start);
     let last = if written.is_some() { text.len() } else { bare };
-    if written.is_some() {
-        put_blanks(text, DECIMAL)?;
-    }
-    if written.is_some() && access.is_some() {
-        text.push(b' ')?;
-    }
+    put_blanks(text, room_behind(written.is_some(), access.is_some()))?;
     let address = text.len().saturating_add(1).saturating_sub(start);
     let stored = put_accessed(text, &access)?.saturating_sub(start);
     Ok(Effects {
@@ -190,13 +191,21 @@ fn put_effects(text: &mut Vec<u8>, start: usize, inst: Inst) -> Result<Effects, 
     })
 }
 
+/// The room behind the value of a register that is written: for that in decimal, and a blank where an access stands behind it.
+fn room_behind(is_written: bool, is_access: bool) -> usize {
+    match (is_written, is_access) {
+        (false, _) => 0,
+        (true, false) => DECIMAL,
+        (true, true) => DECIMAL + 1,
+    }
+}
+
 /// Adds a register that is written, and room for its value; where that is.
 fn put_written(text: &mut Vec<u8>, written: Option<Reg>) -> Result<usize, AllocError> {
     let Some(reg) = written else {
         return Ok(0);
     };
-    put(text, reg.abi_name())?;
-    put(text, " <- ")?;
+    put_parts(text, &[Text(reg.abi_name()), Text(" <- ")])?;
     let value = text.len();
     put_blanks(text, 16)?;
     Ok(value)
@@ -207,9 +216,7 @@ fn put_accessed(text: &mut Vec<u8>, access: &Option<Access>) -> Result<usize, Al
     let Some(access) = access else {
         return Ok(0);
     };
-    text.push(b'[')?;
-    put_blanks(text, 16)?;
-    text.push(b']')?;
+    put(text, ADDRESS)?;
     if !access.stores() {
         return Ok(0);
     }
@@ -232,9 +239,7 @@ fn put_rest(
         if places.begins_line(row, pc) {
             fill_column(text, start, BEFORE_SOURCE)?;
             let source = text.len();
-            put(text, "# ")?;
-            put_line(text, places, row)?;
-            text.push(b'\n')?;
+            put_line(text, "# ", places, row)?;
             return Ok(source);
         }
     }
@@ -246,19 +251,24 @@ fn put_rest(
     Ok(source)
 }
 
-/// Adds the file, the line and the text of a statement, as `a.s:3: li a0, 7`; the file's number where it has no name.
-pub(crate) fn put_line(
+/// Adds the file, the line and the text of a statement, as `a.s:3: li a0, 7`, after this sign and before a line feed.
+pub(crate) fn put_line<'a>(
     text: &mut Vec<u8>,
-    places: &Places<'_>,
+    sign: &'a str,
+    places: &Places<'a>,
     row: &rv_map_laws::Row,
 ) -> Result<(), AllocError> {
-    crate::lines::put_file(text, places, row.file)?;
-    text.push(b':')?;
-    put_decimal(text, row.line)?;
     let line = places.line(row.file, row.line);
-    if !line.is_empty() {
-        put(text, ": ")?;
-        text.extend_from_slice(line)?;
-    }
-    Ok(())
+    put_parts(
+        text,
+        &[
+            Text(sign),
+            places.file(row.file),
+            Text(":"),
+            Decimal(row.line),
+            Text(if line.is_empty() { "" } else { ": " }),
+            Name(line),
+            Text("\n"),
+        ],
+    )
 }

@@ -4,7 +4,7 @@
 //! a binary search. A map has global names alone; those of a file are the labels of its source, each at the address of the
 //! statement after it.
 
-use crate::columns::put;
+use crate::parts::{Part, put_parts};
 use rv_fault::{Fault, SourceFault};
 use rv_map::Map;
 use rv_map_laws::{Region, Row};
@@ -155,9 +155,8 @@ impl<'a> Places<'a> {
     }
 
     fn add_regions(&mut self, map: &Map) -> Result<(), AllocError> {
-        for region in [map.text, map.rodata, map.data, map.bss] {
-            self.regions.push(region)?;
-        }
+        self.regions
+            .extend_from_slice(&[map.text, map.rodata, map.data, map.bss])?;
         Ok(())
     }
 
@@ -265,8 +264,7 @@ impl<'a> Places<'a> {
     ) -> Result<(), AllocError> {
         for (name, region) in REGIONS.iter().zip(self.regions.iter()) {
             if start <= region.start && region.start < region.end && region.end <= end {
-                text.push(b' ')?;
-                put(text, name)?;
+                put_parts(text, &[Part::Text(" "), Part::Text(name)])?;
             }
         }
         Ok(())
@@ -366,11 +364,11 @@ impl<'a> Places<'a> {
         self.sources.get(index_of(file)?)
     }
 
-    /// The name of a file by its number, where its source is at hand.
-    pub(crate) fn source_name(&self, file: u64) -> Option<&'a str> {
-        match self.source(file) {
-            Some(source) => Some(source.name),
-            None => None,
+    /// The name of a file by its number, where its source is at hand, else the number.
+    pub(crate) fn file(&self, number: u64) -> Part<'a> {
+        match self.source(number) {
+            Some(source) => Part::Text(source.name),
+            None => Part::Decimal(number),
         }
     }
 

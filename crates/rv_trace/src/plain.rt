@@ -8,13 +8,16 @@
 ghost use Rattle.std.specs.Prelude.{⊤};
 
 use crate::access::{Access, access_of};
-use crate::columns::{fill_column, put, put_fixed};
+use crate::columns::{fill_column, put, put_fixed, put_name};
+use crate::parts::Part::{Column, Name, Text};
+use crate::parts::put_parts;
 use crate::places::Places;
 use crate::report::{Bounds, Segments, rights};
 use crate::trace::put_bytes;
+use rv_event_laws::Setting;
 use rv_image::{STACK_BYTES, STACK_START};
 use rv_isa::{Format, Inst, Reg, mnemonic};
-use rv_machine::{Event, Fetched, Look, ShowFault, Watched, Watcher};
+use rv_machine::{Event, Fetched, Look, ShowFault, Span, Watched, Watcher};
 use rv_map::put_hexadecimal;
 use rv_memory::Memory;
 use std::alloc::{AllocError, Global};
@@ -160,17 +163,20 @@ impl<M: Memory, L: Write> Watcher<M> for PlainTrace<'_, L> {
 
 /// Adds the symbol of an instruction, and its mnemonic with its registers.
 fn put_code(text: &mut Vec<u8>, places: &Places<'_>, opened: &Opened) -> Result<(), AllocError> {
-    let start = text.len();
-    if let Some(near) = places.symbol_at(opened.pc) {
-        text.extend_from_slice(near.name)?;
-    }
-    fill_column(text, start, SYMBOL)?;
-    put(text, mnemonic(opened.inst))?;
+    let symbol = match places.symbol_at(opened.pc) {
+        Some(near) => near.name,
+        None => b"",
+    };
+    put_parts(text, &[Column(symbol, SYMBOL), Text(mnemonic(opened.inst))])?;
+    put_registers(text, opened.inst)
+}
+
+/// Adds the registers of an instruction, behind a blank.
+fn put_registers(text: &mut Vec<u8>, inst: Inst) -> Result<(), AllocError> {
     let mut sign = " ";
-    for register in registers_of(opened.inst) {
+    for register in registers_of(inst) {
         if let Some(register) = register {
-            put(text, sign)?;
-            put(text, register.abi_name())?;
+            put_parts(text, &[Text(sign), Text(register.abi_name())])?;
             sign = ",";
         }
     }
@@ -209,9 +215,7 @@ fn put_effects<M: Memory>(
     let mut width = BEFORE_EFFECT;
     if let Some(setting) = event.set {
         fill_column(text, start, width)?;
-        put(text, setting.register.abi_name())?;
-        put(text, " <- ")?;
-        put_set(text, known, is_part, setting.value)?;
+        put_set(text, known, is_part, &setting)?;
         width = 0;
     }
     if let Some(access) = &access {
@@ -219,9 +223,7 @@ fn put_effects<M: Memory>(
     }
     if event.taken.count > 0 {
         fill_column(text, start, width)?;
-        put_address(text, known, event.taken.address)?;
-        put(text, " <-")?;
-        put_bytes(text, event.taken, memory)?;
+        return put_taken(text, known, event.taken, memory);
     }
     Ok(())
 }
@@ -231,17 +233,30 @@ fn sets_part(inst: &Inst) -> bool {
     matches!((*inst).format(), Format::Upper(_, _))
 }
 
-/// Adds the value that an instruction set; of a part of one that it is one.
+/// Adds where the input that a call took stands, and its bytes.
+fn put_taken<M: Memory>(
+    text: &mut Vec<u8>,
+    known: &Known<'_>,
+    taken: Span,
+    memory: &M,
+) -> Result<(), AllocError> {
+    put_address(text, known, taken.address)?;
+    put(text, " <-")?;
+    put_bytes(text, taken, memory)
+}
+
+/// Adds a register that an instruction set, and its value; of a part of one that it is one.
 fn put_set(
     text: &mut Vec<u8>,
     known: &Known<'_>,
     is_part: bool,
-    value: u64,
+    setting: &Setting,
 ) -> Result<(), AllocError> {
+    put_parts(text, &[Text(setting.register.abi_name()), Text(" <- ")])?;
     if is_part {
         return put(text, "part");
     }
-    put_value(text, known, value, 8)
+    put_value(text, known, setting.value, 8)
 }
 
 /// Adds where an instruction loaded or stored, and what is stored there, in a column.
@@ -266,10 +281,9 @@ fn put_access(
 
 /// Adds an address in brackets.
 fn put_address(text: &mut Vec<u8>, known: &Known<'_>, address: u64) -> Result<(), AllocError> {
-    text.push(b'[')?;
+    put(text, "[")?;
     put_value(text, known, address, 8)?;
-    text.push(b']')?;
-    Ok(())
+    put(text, "]")
 }
 
 /// Adds a number of this many bytes, by its place where it is an address of the program.
@@ -292,10 +306,7 @@ fn put_value(
         return put_inside(text, known.places, bounds, (before, value));
     }
     match known.places.bound_at(value) {
-        Some(name) => {
-            text.extend_from_slice(name)?;
-            Ok(())
-        }
+        Some(name) => put_name(text, name),
         None => put_fixed(text, value, bytes),
     }
 }
@@ -348,10 +359,8 @@ fn put_source(
         let line = places.line(row.file, row.line);
         if places.begins_line(row, pc) && !line.is_empty() {
             fill_column(text, start, BEFORE_SOURCE)?;
-            put(text, "# ")?;
-            text.extend_from_slice(line)?;
+            return put_parts(text, &[Text("# "), Name(line), Text("\n")]);
         }
     }
-    text.push(b'\n')?;
-    Ok(())
+    put(text, "\n")
 }

@@ -3,9 +3,10 @@
 //! Those are alike that have the same number and, of a number that there is, the same file. Of a few different ones all is
 //! kept, of further ones only how many calls there were, so that no run needs more memory for them.
 
-use crate::columns::{put, put_decimal, put_fixed};
+use crate::columns::put;
+use crate::parts::Part::{Decimal, Fixed, Symbol, Text};
+use crate::parts::put_parts;
 use crate::places::Places;
-use crate::report::put_symbol;
 use rv_isa::{Inst, Reg};
 use rv_machine::{Event, Fetched, Watched};
 use rv_memory::Memory;
@@ -56,27 +57,33 @@ impl Refusal {
         self.number == other.number && self.file == other.file
     }
 
-    /// Adds its line.
+    /// Adds its line, if it is of some call.
     fn put_line(&self, text: &mut Vec<u8>, places: &Places<'_>) -> Result<(), AllocError> {
-        put(text, "  call ")?;
-        put_decimal(text, self.number)?;
+        if self.count == 0 {
+            return Ok(());
+        }
+        put_parts(text, &[Text("  call "), Decimal(self.number)])?;
         if let Some(file) = self.file {
-            put(text, " with a0 ")?;
-            put_decimal(text, file)?;
+            put_parts(text, &[Text(" with a0 "), Decimal(file)])?;
         }
         if self.count > 1 {
-            put(text, ", ")?;
-            put_decimal(text, self.count)?;
-            put(text, " times, first")?;
+            put_parts(
+                text,
+                &[Text(", "), Decimal(self.count), Text(" times, first")],
+            )?;
         }
-        put(text, " at ")?;
-        put_fixed(text, self.pc, 8)?;
-        put_symbol(text, places, self.pc)?;
-        put(text, ", answered -")?;
-        put_decimal(text, self.answer())?;
-        put(text, self.why())?;
-        text.push(b'\n')?;
-        Ok(())
+        put_parts(
+            text,
+            &[
+                Text(" at "),
+                Fixed(self.pc, 8),
+                Symbol(places.symbol_at(self.pc)),
+                Text(", answered -"),
+                Decimal(self.answer()),
+                Text(self.why()),
+                Text("\n"),
+            ],
+        )
     }
 
     /// The negative of the answer to it.
@@ -89,11 +96,11 @@ impl Refusal {
 
     /// Why it was refused.
     fn why(&self) -> &'static str {
-        match (self.file, self.number) {
-            (None, 10) => ": it is not one of 63, 64, 93; RARS's exit is 93 here",
-            (None, _) => ": it is not one of 63, 64, 93",
-            (_, 63) => ": it reads only where a0 is 0",
-            _ => ": it writes only where a0 is 1 or 2",
+        match self.file {
+            None if self.number == 10 => ": it is not one of 63, 64, 93; RARS's exit is 93 here",
+            None => ": it is not one of 63, 64, 93",
+            Some(_) if self.number == 63 => ": it reads only where a0 is 0",
+            Some(_) => ": it writes only where a0 is 1 or 2",
         }
     }
 }
@@ -175,16 +182,20 @@ impl Refusals {
         }
         put(text, "refused calls\n")?;
         for refusal in self.named() {
-            if refusal.count > 0 {
-                refusal.put_line(text, places)?;
-            }
+            refusal.put_line(text, places)?;
         }
-        if self.others > 0 {
-            put(text, "  and ")?;
-            put_decimal(text, self.others)?;
-            put(text, " others\n")?;
+        self.put_others(text)
+    }
+
+    /// Adds how many calls are not named, if there are some.
+    fn put_others(&self, text: &mut Vec<u8>) -> Result<(), AllocError> {
+        if self.others == 0 {
+            return Ok(());
         }
-        Ok(())
+        put_parts(
+            text,
+            &[Text("  and "), Decimal(self.others), Text(" others\n")],
+        )
     }
 }
 

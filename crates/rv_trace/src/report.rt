@@ -3,10 +3,12 @@
 ghost use Rattle.std.specs.Prelude.{◌≡◌, ◌+◌, ◌%◌, ◌^◌, length};
 
 use crate::access::{AccessKind, access_of};
-use crate::columns::{fill_column, put, put_decimal, put_fixed, put_near, put_small};
+use crate::columns::{fill_column, put, put_near};
 use crate::cure::put_cure;
 use crate::ending::Ending;
 use crate::memory_lines::{put_stack, put_words_around};
+use crate::parts::Part::{Column, Decimal, Fixed, Name, Near, Small, Symbol, Text};
+use crate::parts::put_parts;
 use crate::pattern::put_line;
 use crate::places::Places;
 use crate::refusals::Refusals;
@@ -180,24 +182,42 @@ pub fn report_text<M: Memory>(
     segments: &Segments,
     ending: Ending,
 ) -> Result<Vec<u8>, AllocError> {
-    let end = ending.end();
     let mut text = Vec::new(alloc);
-    put_exit(&mut text, ending)?;
-    put_at(&mut text, machine, places)?;
-    if matches!(end, End::FetchOutside(_) | End::Illegal(_)) {
-        put_from(&mut text, machine, latest, places)?;
-    }
-    put_failed(&mut text, machine, (places, segments), &end)?;
-    if let Some(address) = end.address() {
-        put_words_around(&mut text, machine, places, address)?;
-    }
-    latest.refusals.put_lines(&mut text, places)?;
-    put_cure(&mut text, ending)?;
-    put_registers(&mut text, machine, places)?;
-    put_stack(&mut text, machine, places)?;
-    put_segments(&mut text, places, segments)?;
-    put_latest(&mut text, machine, latest, places)?;
+    put_end(&mut text, machine, latest, (places, segments), ending)?;
+    put_state(&mut text, machine, latest, (places, segments))?;
     Ok(text)
+}
+
+/// Adds where a run ended and why, the calls that were refused, and the cure.
+fn put_end<M: Memory>(
+    text: &mut Vec<u8>,
+    machine: &Watched<M>,
+    latest: &Latest,
+    known: (&Places<'_>, &Segments),
+    ending: Ending,
+) -> Result<(), AllocError> {
+    let end = ending.end();
+    put_exit(text, ending)?;
+    put_at(text, machine, known.0)?;
+    put_from(text, machine, latest, known.0, &end)?;
+    put_failed(text, machine, known, &end)?;
+    put_words_around(text, machine, known.0, end.address())?;
+    latest.refusals.put_lines(text, known.0)?;
+    put_cure(text, ending)
+}
+
+/// Adds what the machine holds, and the latest instructions.
+fn put_state<M: Memory>(
+    text: &mut Vec<u8>,
+    machine: &Watched<M>,
+    latest: &Latest,
+    known: (&Places<'_>, &Segments),
+) -> Result<(), AllocError> {
+    let (places, segments) = known;
+    put_registers(text, machine, places)?;
+    put_stack(text, machine, places)?;
+    put_segments(text, places, segments)?;
+    put_latest(text, machine, latest, places)
 }
 
 /// Adds the status of an exit, or that the run came to where it was to end.
@@ -208,9 +228,10 @@ fn put_exit(text: &mut Vec<u8>, ending: Ending) -> Result<(), AllocError> {
     let Some(status) = ending.status() else {
         return Ok(());
     };
-    put(text, "exit\n  with status ")?;
-    put_decimal(text, status)?;
-    put(text, "\n")
+    put_parts(
+        text,
+        &[Text("exit\n  with status "), Decimal(status), Text("\n")],
+    )
 }
 
 /// Adds the lines of the instruction at pc.
@@ -221,25 +242,24 @@ fn put_at<M: Memory>(
 ) -> Result<(), AllocError> {
     put(text, "at\n")?;
     put_place(text, machine, places, machine.pc())?;
-    text.push(b'\n')?;
-    if let Some(row) = places.row_at(machine.pc()) {
-        put(text, "  ")?;
-        put_line(text, places, row)?;
-        text.push(b'\n')?;
+    put(text, "\n")?;
+    match places.row_at(machine.pc()) {
+        Some(row) => put_line(text, "  ", places, row),
+        None => Ok(()),
     }
-    Ok(())
 }
 
-/// Adds the line of the instruction from which the run came to pc, where one was executed.
+/// Adds the line of the instruction from which the run came to pc, where one was executed and none stands at pc.
 fn put_from<M: Memory>(
     text: &mut Vec<u8>,
     machine: &Watched<M>,
     latest: &Latest,
     places: &Places<'_>,
+    end: &End,
 ) -> Result<(), AllocError> {
     // the last one is that at pc
     let shown = latest.shown();
-    if shown < 2 {
+    if shown < 2 || !matches!(end, End::FetchOutside(_) | End::Illegal(_)) {
         return Ok(());
     }
     put(text, "from\n")?;
@@ -281,9 +301,7 @@ fn put_place<M: Memory>(
     places: &Places<'_>,
     address: u64,
 ) -> Result<(), AllocError> {
-    put(text, "  ")?;
-    put_fixed(text, address, 8)?;
-    text.push(b' ')?;
+    put_parts(text, &[Text("  "), Fixed(address, 8), Text(" ")])?;
     let start = text.len();
     put_near(text, places.symbol_at(address))?;
     fill_column(text, start, 20)?;
@@ -320,9 +338,7 @@ fn put_target(
     let Some(near) = places.symbol_at(target) else {
         return Ok(());
     };
-    put(text, " <")?;
-    put_near(text, Some(near))?;
-    put(text, ">")
+    put_parts(text, &[Text(" <"), Near(near), Text(">")])
 }
 
 /// Adds the access that failed, where one did.
@@ -335,36 +351,21 @@ fn put_failed<M: Memory>(
     let (Some(address), Some(what)) = (end.address(), failed_access(end, machine)) else {
         return Ok(());
     };
-    put(text, "access\n  ")?;
-    put(text, what.kind)?;
-    put(text, " of ")?;
-    put_decimal(text, what.bytes)?;
-    put(
+    put_parts(
         text,
-        if what.bytes == 1 {
-            " byte at "
-        } else {
-            " bytes at "
-        },
+        &[
+            Text("access\n  "),
+            Text(what.kind),
+            Text(" of "),
+            Decimal(what.bytes),
+            Text(unit_of(what.bytes)),
+            Text(" at "),
+            Fixed(address, 8),
+            Symbol(known.0.symbol_at(address)),
+        ],
     )?;
-    put_fixed(text, address, 8)?;
-    put_symbol(text, known.0, address)?;
     put_why(text, known, end, address, what.bytes)?;
-    text.push(b'\n')?;
-    Ok(())
-}
-
-/// Adds the symbol that an address points into, after a blank, where there is one.
-pub(crate) fn put_symbol(
-    text: &mut Vec<u8>,
-    places: &Places<'_>,
-    address: u64,
-) -> Result<(), AllocError> {
-    if let Some(near) = places.symbol_at(address) {
-        text.push(b' ')?;
-        put_near(text, Some(near))?;
-    }
-    Ok(())
+    put(text, "\n")
 }
 
 /// Adds why an access of these bytes failed.
@@ -380,22 +381,12 @@ fn put_why(
         return put(text, ", which is no multiple of them");
     }
     match segments.at(address) {
-        Some(bounds) if bounds.end.wrapping_sub(address) < bytes => {
-            put(text, ", past the end of ")?;
-            put(
-                text,
-                name_of(places, bounds, address).unwrap_or("a segment"),
-            )
-        }
-        Some(bounds) => {
-            put(text, ", in ")?;
-            put(
-                text,
-                name_of(places, bounds, address).unwrap_or("a segment"),
-            )?;
-            put(text, ", which has ")?;
-            put(text, rights(bounds.flags))
-        }
+        Some(bounds) => put_in_segment(
+            text,
+            bounds.end.wrapping_sub(address) < bytes,
+            name_of(places, bounds, address),
+            rights(bounds.flags),
+        ),
         None => {
             put(text, ", in no segment")?;
             put_beside(text, places, segments, address)
@@ -403,12 +394,33 @@ fn put_why(
     }
 }
 
-/// The name of the part of a segment that has an address.
-fn name_of(places: &Places<'_>, bounds: &Bounds, address: u64) -> Option<&'static str> {
-    if bounds.start == STACK_START {
-        return Some("the stack");
+/// Adds that an access goes past the end of a segment, or that the segment does not have the right.
+fn put_in_segment<'a>(
+    text: &mut Vec<u8>,
+    is_past: bool,
+    name: &'a str,
+    rights: &'a str,
+) -> Result<(), AllocError> {
+    if is_past {
+        return put_parts(text, &[Text(", past the end of "), Text(name)]);
     }
-    places.region_at(address)
+    put_parts(
+        text,
+        &[
+            Text(", in "),
+            Text(name),
+            Text(", which has "),
+            Text(rights),
+        ],
+    )
+}
+
+/// The name of the part of a segment that has an address.
+fn name_of(places: &Places<'_>, bounds: &Bounds, address: u64) -> &'static str {
+    if bounds.start == STACK_START {
+        return "the stack";
+    }
+    places.region_at(address).unwrap_or("a segment")
 }
 
 /// Adds what an access in no segment is beside: an end of the stack, or the end of what a symbol names.
@@ -419,9 +431,14 @@ fn put_beside(
     address: u64,
 ) -> Result<(), AllocError> {
     if address < STACK_START && STACK_START.wrapping_sub(address) <= BELOW_STACK {
-        put(text, "; the stack is full: ")?;
-        put_decimal(text, STACK_BYTES as u64 >> 20)?;
-        return put(text, " MiB");
+        return put_parts(
+            text,
+            &[
+                Text("; the stack is full: "),
+                Decimal(STACK_BYTES as u64 >> 20),
+                Text(" MiB"),
+            ],
+        );
     }
     let end = segments.end_before(address);
     let distance = address.wrapping_sub(end);
@@ -440,15 +457,24 @@ fn put_behind(text: &mut Vec<u8>, name: &[u8], distance: u64) -> Result<(), Allo
         return Ok(());
     }
     if distance == 0 {
-        put(text, ", right")?;
-    } else {
-        put(text, ", ")?;
-        put_decimal(text, distance)?;
-        put(text, if distance == 1 { " byte" } else { " bytes" })?;
+        return put_parts(text, &[Text(", right behind `"), Name(name), Text("`")]);
     }
-    put(text, " behind `")?;
-    text.extend_from_slice(name)?;
-    put(text, "`")
+    put_parts(
+        text,
+        &[
+            Text(", "),
+            Decimal(distance),
+            Text(unit_of(distance)),
+            Text(" behind `"),
+            Name(name),
+            Text("`"),
+        ],
+    )
+}
+
+/// What so many bytes are called.
+fn unit_of(bytes: u64) -> &'static str {
+    if bytes == 1 { " byte" } else { " bytes" }
 }
 
 /// What a failed access was, and its bytes.
@@ -502,32 +528,37 @@ fn put_register<M: Memory>(
     places: &Places<'_>,
     reg: Reg,
 ) -> Result<(), AllocError> {
-    put(text, "  ")?;
-    let start = text.len();
-    put(text, reg.abi_name())?;
-    fill_column(text, start, 4)?;
     let value = machine.register(reg);
-    put_fixed(text, value, 8)?;
-    put_small(text, value)?;
-    put_symbol(text, places, value)?;
-    text.push(b'\n')?;
-    Ok(())
+    put_parts(
+        text,
+        &[
+            Text("  "),
+            Column(reg.abi_name().as_bytes(), 4),
+            Fixed(value, 8),
+            Small(value),
+            Symbol(places.symbol_at(value)),
+            Text("\n"),
+        ],
+    )
 }
 
 /// Adds a segment: its first address, the address after it, its rights, and what it holds.
 fn put_bounds(text: &mut Vec<u8>, places: &Places<'_>, bounds: &Bounds) -> Result<(), AllocError> {
-    put(text, "  ")?;
-    put_fixed(text, bounds.start, 8)?;
-    text.push(b' ')?;
-    put_fixed(text, bounds.end, 8)?;
-    text.push(b' ')?;
-    put(text, rights(bounds.flags))?;
-    if bounds.start == STACK_START {
-        put(text, " the stack")?;
-    }
+    let is_stack = bounds.start == STACK_START;
+    put_parts(
+        text,
+        &[
+            Text("  "),
+            Fixed(bounds.start, 8),
+            Text(" "),
+            Fixed(bounds.end, 8),
+            Text(" "),
+            Text(rights(bounds.flags)),
+            Text(if is_stack { " the stack" } else { "" }),
+        ],
+    )?;
     places.put_regions(text, bounds.start, bounds.end)?;
-    text.push(b'\n')?;
-    Ok(())
+    put(text, "\n")
 }
 
 /// The rights of a segment to read, to write and to execute, as `r--`.
@@ -564,10 +595,8 @@ fn put_latest<M: Memory>(
 fn put_source(text: &mut Vec<u8>, places: &Places<'_>, address: u64) -> Result<(), AllocError> {
     if let Some(row) = places.row_at(address) {
         if places.begins_line(row, address) {
-            put(text, "  # ")?;
-            put_line(text, places, row)?;
+            return put_line(text, "  # ", places, row);
         }
     }
-    text.push(b'\n')?;
-    Ok(())
+    put(text, "\n")
 }

@@ -1,10 +1,16 @@
 //! The counts of a run as a text.
 
-use crate::columns::{fill_column, put, put_blanks, put_count, put_near, put_right, put_share};
+use crate::columns::{fill_column, put};
+use crate::parts::Part::{Column, Decimal, Hexadecimal, Near, Right, Text};
+use crate::parts::put_parts;
 use crate::places::Places;
 use rv_counts::{Branches, CallCount, Counts, MnemonicCount, Totals};
-use rv_map::put_hexadecimal;
 use std::alloc::{AllocError, Global};
+
+/// The width of what is counted.
+const NAME: usize = 24;
+/// That of a count.
+const COUNT: usize = 16;
 
 /// What a run did, counted: a line each for all instructions, compressed ones, loads, stores, branches and the stack; then
 /// by kind, by mnemonic, and calls by function.
@@ -78,21 +84,42 @@ fn put_sums(
         ("deepest stack", deepest),
     ];
     for (name, count) in lines {
-        put_count(text, 0, name, count)?;
+        put_parts(text, &[Column(name.as_bytes(), NAME), Right(count, COUNT)])?;
         if name == "compressed" {
             put_share(text, count, totals.executed)?;
         }
-        text.push(b'\n')?;
+        put(text, "\n")?;
     }
     Ok(())
 }
 
 /// Adds the line of a part of all instructions, with its share.
 fn put_part(text: &mut Vec<u8>, name: &str, count: u64, whole: u64) -> Result<(), AllocError> {
-    put_count(text, 2, name, count)?;
+    put_parts(
+        text,
+        &[
+            Text("  "),
+            Column(name.as_bytes(), NAME - 2),
+            Right(count, COUNT),
+        ],
+    )?;
     put_share(text, count, whole)?;
-    text.push(b'\n')?;
-    Ok(())
+    put(text, "\n")
+}
+
+/// Adds how much a count is of a whole, in percent, rounded to one digit after the point.
+fn put_share(text: &mut Vec<u8>, count: u64, whole: u64) -> Result<(), AllocError> {
+    let thousands = count.saturating_mul(1000).saturating_add(whole / 2);
+    let tenths = thousands.checked_div(whole).unwrap_or(0);
+    put_parts(
+        text,
+        &[
+            Right(tenths / 10, 8),
+            Text("."),
+            Decimal(tenths % 10),
+            Text(" %"),
+        ],
+    )
 }
 
 /// Adds the line of a function, by its symbol, or by its address where it has none.
@@ -102,18 +129,13 @@ fn put_called(
     places: &Places<'_>,
 ) -> Result<(), AllocError> {
     let start = text.len();
-    put_blanks(text, 2)?;
-    match places.symbol_at(called.address) {
-        Some(near) => put_near(text, Some(near))?,
-        None => {
-            put(text, "0x")?;
-            put_hexadecimal(text, called.address)?;
-        }
-    }
-    fill_column(text, start, 24)?;
-    put_right(text, called.count, 16)?;
-    text.push(b'\n')?;
-    Ok(())
+    let function = match places.symbol_at(called.address) {
+        Some(near) => Near(near),
+        None => Hexadecimal(called.address),
+    };
+    put_parts(text, &[Text("  "), function])?;
+    fill_column(text, start, NAME)?;
+    put_parts(text, &[Right(called.count, COUNT), Text("\n")])
 }
 
 /// The mnemonics by how often they were executed, then by name.

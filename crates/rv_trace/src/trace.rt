@@ -8,10 +8,12 @@ ghost use Rattle.std.specs.Prelude.{◌≡◌, ⊤};
 ghost use Rattle.rv_trace.specs.Shown.{is_full};
 
 use crate::columns::{
-    DECIMAL, fill_column, put, put_fixed, put_small, set_fixed, set_low_digits, set_small,
+    DECIMAL, fill_column, put_fixed, put_small, set_fixed, set_low_digits, set_small,
 };
 use crate::counter::{Counter, DIGITS};
 use crate::moved::put_span;
+use crate::parts::Part::{Fixed, Text};
+use crate::parts::put_parts;
 use crate::pattern::{BEFORE_SOURCE, Effects, Patterns};
 use crate::places::Places;
 use crate::visited::{VisitedInstruction, VisitedInstructions};
@@ -131,14 +133,7 @@ impl<'a, L: Write> Trace<'a, L> {
             return Ok(());
         }
         self.kept.truncate(start.saturating_add(effects.no_access));
-        if let Some(setting) = event.set {
-            put_small(&mut self.kept, setting.value)?;
-        }
-        if event.taken.count > 0 {
-            let room = effects.no_access.saturating_add(DECIMAL);
-            fill_column(&mut self.kept, start, room)?;
-            put_taken(&mut self.kept, event.taken, memory)?;
-        }
+        put_told(&mut self.kept, start, effects.no_access, event, memory)?;
         put_rest(&mut self.kept, start, self.patterns.rest(pattern))
     }
 }
@@ -173,12 +168,29 @@ fn fill(line: &mut [u8], effects: &Effects, event: &Event) -> bool
     true
 }
 
+/// Adds what an event tells behind the value of its register, which ends in the line at an offset: the value in decimal, and
+/// the input that a call took.
+fn put_told<M: Memory>(
+    text: &mut Vec<u8>,
+    start: usize,
+    offset: usize,
+    event: &Event,
+    memory: &M,
+) -> Result<(), AllocError> {
+    if let Some(setting) = event.set {
+        put_small(text, setting.value)?;
+    }
+    if event.taken.count == 0 {
+        return Ok(());
+    }
+    fill_column(text, start, offset.saturating_add(DECIMAL))?;
+    put_taken(text, event.taken, memory)
+}
+
 /// Adds where the input that a call took stands, and its bytes in their order.
 #[inline(never)]
 fn put_taken<M: Memory>(text: &mut Vec<u8>, taken: Span, memory: &M) -> Result<(), AllocError> {
-    text.push(b'[')?;
-    put_fixed(text, taken.address, 8)?;
-    put(text, "] <-")?;
+    put_parts(text, &[Text("["), Fixed(taken.address, 8), Text("] <-")])?;
     put_bytes(text, taken, memory)
 }
 
