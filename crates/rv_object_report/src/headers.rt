@@ -75,20 +75,24 @@ fn is_text(file: &[u8]) -> bool {
 
 /// Adds the first of class, order and version that is another.
 fn put_class(alloc: Global, file: &[u8], sentence: &mut String) -> Result<(), AllocError> {
-    let class = byte(file, CLASS);
-    let order = byte(file, ORDER);
-    let version = byte(file, VERSION);
-    let told = if class == 1 {
-        format!(in alloc; "its class is 1, of 32 bits, and not 2, of 64")?
-    } else if class != 2 {
-        format!(in alloc; "its class is {class}, and not 2, of 64 bits")?
-    } else if order == 2 {
-        format!(in alloc; "its data is 2, big-endian, and not 1, little-endian")?
-    } else if order != 1 {
-        format!(in alloc; "its data is {order}, and not 1, little-endian")?
-    } else {
-        format!(in alloc; "its version is {version}, and not 1")?
-    };
+    match (byte(file, CLASS), byte(file, ORDER)) {
+        (1, _) => sentence.push_str("its class is 1, of 32 bits, and not 2, of 64"),
+        (2, 1) => put_other(alloc, "version", byte(file, VERSION), "1", sentence),
+        (2, 2) => sentence.push_str("its data is 2, big-endian, and not 1, little-endian"),
+        (2, order) => put_other(alloc, "data", order, "1, little-endian", sentence),
+        (class, _) => put_other(alloc, "class", class, "2, of 64 bits", sentence),
+    }
+}
+
+/// Adds what is another number in a file than is wanted.
+fn put_other(
+    alloc: Global,
+    what: &str,
+    number: u8,
+    wanted: &str,
+    sentence: &mut String,
+) -> Result<(), AllocError> {
+    let told = format!(in alloc; "its {what} is {number}, and not {wanted}")?;
     sentence.push_str(told.as_str())
 }
 
@@ -96,18 +100,20 @@ fn put_class(alloc: Global, file: &[u8], sentence: &mut String) -> Result<(), Al
 fn put_machine(alloc: Global, file: &[u8], sentence: &mut String) -> Result<(), AllocError> {
     let machine = half(file, MACHINE);
     if machine == EM_RISCV {
-        let flags = byte(file, FLAGS);
-        let told = format!(in alloc; "its flags are 0x{flags:x}: ")?;
-        sentence.push_str(told.as_str())?;
-        return sentence.push_str(wanted_by(flags));
+        return put_flags(alloc, byte(file, FLAGS), sentence);
     }
-    let told = format!(in alloc; "its machine is {machine}")?;
-    sentence.push_str(told.as_str())?;
-    if let Some(name) = machine_named(machine) {
-        sentence.push_str(", ")?;
-        sentence.push_str(name)?;
-    }
-    sentence.push_str(", and not 243, RISC-V")
+    let told = match machine_named(machine) {
+        Some(name) => format!(in alloc; "its machine is {machine}, {name}, and not 243, RISC-V")?,
+        None => format!(in alloc; "its machine is {machine}, and not 243, RISC-V")?,
+    };
+    sentence.push_str(told.as_str())
+}
+
+/// Adds flags, and what they want.
+fn put_flags(alloc: Global, flags: u8, sentence: &mut String) -> Result<(), AllocError> {
+    let wanted = wanted_by(flags);
+    let told = format!(in alloc; "its flags are 0x{flags:x}: {wanted}")?;
+    sentence.push_str(told.as_str())
 }
 
 /// The name of a machine.

@@ -38,15 +38,20 @@ pub(crate) fn wrong_name(
     if header.sh_type != SHT_SYMTAB {
         return None;
     }
+    Some(Wrong {
+        section,
+        record: Some(badly_named(view, header)?),
+        what: "has a name without an end, or one that a map cannot show",
+    })
+}
+
+/// The first symbol of a table whose name has no end, or is none that all objects see.
+fn badly_named(view: &ElfView<'_>, header: &SectionHeader) -> Option<usize> {
     let symbols = bytes_of(view, header).ok()?;
     let strings = bytes_of(view, &section_named(view, header.sh_link).ok()?).ok()?;
     for record in 1..count_symbols(symbols) {
         if is_badly_named(view, strings, &symbol_at(symbols, record)?) {
-            return Some(Wrong {
-                section,
-                record: Some(record),
-                what: "has a name without an end, or one that a map cannot show",
-            });
+            return Some(record);
         }
     }
     None
@@ -125,20 +130,24 @@ fn wrong_target(view: &ElfView<'_>, section: u16, header: &SectionHeader) -> Opt
         return Some(Wrong::of_section(section, what));
     }
     let symbols = section_named(view, header.sh_link).ok()?;
-    let most = count_symbols(bytes_of(view, &symbols).ok()?);
+    let count = count_symbols(bytes_of(view, &symbols).ok()?);
     let target = section_named(view, header.sh_info).ok()?;
     if target.sh_flags & SHF_ALLOC == 0 {
         return None;
     }
-    let relas = bytes_of(view, header).ok()?;
+    Some(Wrong {
+        section,
+        record: Some(record_past(bytes_of(view, header).ok()?, count)?),
+        what: "names a symbol that there is not",
+    })
+}
+
+/// The first of some relocations that names none of so many symbols.
+fn record_past(relas: &[u8], count: usize) -> Option<usize> {
     for record in 0..count_relas(relas) {
         let symbol = rela_at(relas, record)?.r_sym as usize;
-        if symbol != 0 && most <= symbol {
-            return Some(Wrong {
-                section,
-                record: Some(record),
-                what: "names a symbol that there is not",
-            });
+        if symbol != 0 && count <= symbol {
+            return Some(record);
         }
     }
     None

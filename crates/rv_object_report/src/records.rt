@@ -145,13 +145,17 @@ fn target_of(view: &ElfView<'_>, header: &SectionHeader) -> Option<SectionHeader
 
 /// What is wrong with the header of a section.
 fn wrong_header(view: &ElfView<'_>, section: u16, header: &SectionHeader) -> Option<&'static str> {
-    let is_of_rows = is_rows(view, header);
-    if is_of_rows && has_before(view, section, true) {
+    if is_rows(view, header) && has_before(view, section, true) {
         return Some("is a second table of rows");
     }
     if header.sh_type == SHT_SYMTAB && has_before(view, section, false) {
         return Some("is a second table of symbols");
     }
+    wrong_size(view, header)
+}
+
+/// What is wrong with the size of a section or with its alignment.
+fn wrong_size(view: &ElfView<'_>, header: &SectionHeader) -> Option<&'static str> {
     if header.sh_size % record_size(view, header) != 0 {
         return Some("has a size that is no multiple of its records'");
     }
@@ -274,19 +278,23 @@ fn put_wrong(
     wrong: &Wrong,
     sentence: &mut String,
 ) -> Result<(), AllocError> {
-    if let Some(record) = wrong.record {
-        let told = format!(in alloc; "record {record} of ")?;
-        sentence.push_str(told.as_str())?;
-    }
     let section = wrong.section;
-    let told = format!(in alloc; "section {section} ")?;
-    sentence.push_str(told.as_str())?;
-    let name = section_name(view, header);
-    if !name.is_empty() {
-        put_bytes(sentence, name)?;
-        sentence.push_str(" ")?;
-    }
+    let place = match wrong.record {
+        Some(record) => format!(in alloc; "record {record} of section {section} ")?,
+        None => format!(in alloc; "section {section} ")?,
+    };
+    sentence.push_str(place.as_str())?;
+    put_section_name(section_name(view, header), sentence)?;
     sentence.push_str(wrong.what)
+}
+
+/// Adds the name of a section and a blank, if it has one.
+fn put_section_name(name: &[u8], sentence: &mut String) -> Result<(), AllocError> {
+    if name.is_empty() {
+        return Ok(());
+    }
+    put_bytes(sentence, name)?;
+    sentence.push_str(" ")
 }
 
 /// Adds the kind, the place and the symbol of a relocation that is left out.
@@ -304,17 +312,18 @@ fn put_kind(
     let Some(rela) = rela_at(bytes_of(view, header).unwrap_or(b""), record) else {
         return Ok(());
     };
-    sentence.push_str("; it is ")?;
-    match kind_name(*kind) {
-        Some(name) => put_bytes(sentence, name)?,
-        None => sentence.push_str("unknown")?,
-    }
+    put_name(sentence, "; it is ", kind_name(*kind).unwrap_or(b"unknown"))?;
     let offset = rela.r_offset;
-    let told = format!(in alloc; " at 0x{offset:x}")?;
-    sentence.push_str(told.as_str())?;
-    if let Some(symbol) = symbol_named(view, header.sh_link, rela.r_sym) {
-        sentence.push_str(" of ")?;
-        put_bytes(sentence, symbol.name)?;
+    let place = format!(in alloc; " at 0x{offset:x}")?;
+    sentence.push_str(place.as_str())?;
+    match symbol_named(view, header.sh_link, rela.r_sym) {
+        Some(symbol) => put_name(sentence, " of ", symbol.name),
+        None => Ok(()),
     }
-    Ok(())
+}
+
+/// Adds a name behind words.
+pub(crate) fn put_name(sentence: &mut String, words: &str, name: &[u8]) -> Result<(), AllocError> {
+    sentence.push_str(words)?;
+    put_bytes(sentence, name)
 }

@@ -1,10 +1,11 @@
 //! The places of objects that a fault of the link is about: which refer to a name, and which define it.
 
+use crate::records::put_name;
 use crate::sites::{Site, sites_in};
 use crate::tables::{name_of_section, row_of, symbol_named};
 use rv_elf::{ElfView, SHN_UNDEF, SHT_SYMTAB, STB_GLOBAL};
-use rv_fault_texts::put_bytes;
 use rv_inspect::{bytes_of, count_symbols, section_at, section_named};
+use rv_object_reader::RowRecord;
 use std::alloc::{AllocError, Global};
 
 /// The most references to a name that are shown.
@@ -103,10 +104,13 @@ pub(crate) fn show_definitions(
 /// The section and the offset that a file gives, by this binding, to a name for all objects; none where it does not.
 pub(crate) fn definition_in(file: &[u8], name: &[u8], binding: u8) -> Option<(u32, u64)> {
     let view = ElfView::open(file).ok()?;
-    let table = index_of_symbols(&view)?;
-    let symbols = bytes_of(&view, &section_named(&view, table).ok()?).ok()?;
-    for index in 0..count_symbols(symbols) {
-        let symbol = symbol_named(&view, table, u32::try_from(index).ok()?)?;
+    definition_of(&view, index_of_symbols(&view)?, name, binding)
+}
+
+/// The section and the offset that a table of symbols gives to a name, by this binding.
+fn definition_of(view: &ElfView<'_>, table: u32, name: &[u8], binding: u8) -> Option<(u32, u64)> {
+    for index in 0..count_of(view, table) {
+        let symbol = symbol_named(view, table, u32::try_from(index).ok()?)?;
         if symbol.binding == binding && symbol.section != SHN_UNDEF && symbol.name == name {
             return Some((u32::from(symbol.section), symbol.value));
         }
@@ -125,6 +129,17 @@ pub(crate) fn index_of_symbols(view: &ElfView<'_>) -> Option<u32> {
     None
 }
 
+/// How many symbols a table has.
+pub(crate) fn count_of(view: &ElfView<'_>, table: u32) -> usize {
+    let Ok(header) = section_named(view, table) else {
+        return 0;
+    };
+    match bytes_of(view, &header) {
+        Ok(symbols) => count_symbols(symbols),
+        Err(_) => 0,
+    }
+}
+
 /// Shows a place of a file, as `a.o: .text+0x12, line 5 of its source`; a number has no section.
 fn show_place(
     alloc: Global,
@@ -137,18 +152,32 @@ fn show_place(
 ) -> Result<(), AllocError> {
     let title = names.get(file).copied().unwrap_or("");
     let bytes = files.get(file).copied().unwrap_or(b"");
-    text.push_str("  ")?;
-    text.push_str(title)?;
-    text.push_str(": ")?;
-    if let Ok(view) = ElfView::open(bytes) {
-        put_bytes(text, name_of_section(&view, section))?;
+    let head = format!(in alloc; "  {title}: ")?;
+    put_name(text, head.as_str(), section_in(bytes, section))?;
+    put_offset(alloc, offset, row_of(bytes, section, offset), text)
+}
+
+/// The name of the section of an index; no byte where a file has none.
+fn section_in(file: &[u8], section: u32) -> &[u8] {
+    match ElfView::open(file) {
+        Ok(view) => name_of_section(&view, section),
+        Err(_) => b"",
     }
-    let place = format!(in alloc; "+0x{offset:x}")?;
-    text.push_str(place.as_str())?;
-    if let Some(row) = row_of(bytes, section, offset) {
-        let line = row.r_line;
-        let told = format!(in alloc; ", line {line} of its source")?;
-        text.push_str(told.as_str())?;
-    }
-    text.push_str("\n")
+}
+
+/// Shows an offset, and the line of its row if it has one.
+fn put_offset(
+    alloc: Global,
+    offset: u64,
+    row: Option<RowRecord>,
+    text: &mut String,
+) -> Result<(), AllocError> {
+    let place = match row {
+        Some(row) => {
+            let line = row.r_line;
+            format!(in alloc; "+0x{offset:x}, line {line} of its source\n")?
+        }
+        None => format!(in alloc; "+0x{offset:x}\n")?,
+    };
+    text.push_str(place.as_str())
 }

@@ -5,8 +5,9 @@ use crate::near::put_near;
 use crate::records::put_record;
 use crate::references::{show_definitions, show_references, show_site};
 use crate::search::faulty_site;
+use crate::sites::Site;
 use crate::tables::symbol_of;
-use crate::values::{put_value, value_of};
+use crate::values::{Value, put_value, value_of};
 use rv_fault::{Fault, FileFault};
 use rv_fault_texts::{Remark, link_words};
 use rv_link::{GroundOptions, LinkFault};
@@ -41,10 +42,10 @@ fn put_file(
     sentence: &mut String,
 ) -> Result<(), AllocError> {
     put_header(alloc, file, fault, sentence)?;
-    if sentence.is_empty() {
-        put_record(alloc, file, fault, sentence)?;
+    if !sentence.is_empty() {
+        return Ok(());
     }
-    Ok(())
+    put_record(alloc, file, fault, sentence)
 }
 
 /// Adds what is said of a fault of the link.
@@ -93,15 +94,25 @@ fn put_refused_value(
         LinkFault::DanglingPcrel => None,
         _ => value_of(alloc, files, &site, options)?,
     };
-    match value {
-        Some(value) => {
-            let name = match files.get(site.file) {
-                Some(file) => symbol_of(file, &site),
-                None => b"",
-            };
-            put_value(alloc, &mut remark.sentence, name, &site, &value, fault)?;
-        }
-        None => remark.sentence.push_str(link_words(fault))?,
-    }
+    put_value_at(alloc, files, &site, value, fault, &mut remark.sentence)?;
     Ok(())
+}
+
+/// Adds what the value of a relocation is made of, if that can be told.
+fn put_value_at(
+    alloc: Global,
+    files: &[&[u8]],
+    site: &Site,
+    value: Option<Value>,
+    fault: &LinkFault,
+    sentence: &mut String,
+) -> Result<(), AllocError> {
+    let Some(value) = value else {
+        return sentence.push_str(link_words(fault));
+    };
+    let name = match files.get(site.file) {
+        Some(file) => symbol_of(file, site),
+        None => b"",
+    };
+    put_value(alloc, sentence, name, site, &value, fault)
 }

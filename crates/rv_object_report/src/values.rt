@@ -177,16 +177,16 @@ pub fn put_value(
     put_sum(alloc, sentence, site.rela.r_addend)?;
     let target = value.target;
     let place = value.place;
+    let fits = what_fits(kind, fault);
     let added = if is_distance(kind) {
         let distance = target.wrapping_sub(place).cast_signed();
         format!(in alloc;
-            " is at 0x{target:x}, at a distance of {distance} from here, 0x{place:x}; "
+            " is at 0x{target:x}, at a distance of {distance} from here, 0x{place:x}; {fits}"
         )?
     } else {
-        format!(in alloc; " is 0x{target:x}; ")?
+        format!(in alloc; " is 0x{target:x}; {fits}")?
     };
-    sentence.push_str(added.as_str())?;
-    sentence.push_str(what_fits(kind, fault))
+    sentence.push_str(added.as_str())
 }
 
 /// Adds what is added to a symbol.
