@@ -1,12 +1,12 @@
 //! What the program says of sources that it is to check.
 
-use crate::formats::{put_json, put_line_of_compilers};
+use crate::formats::{put_json, put_line_of_compilers, put_parts};
 use rv_chain::GroundOptions;
 use rv_check::{Finding, Report, check};
 use rv_fault_texts::Remark;
 use rv_job::ReportFormat;
 use rv_system::{JobError, System, borrowed, fault_line, files_bytes, print};
-use std::alloc::Global;
+use std::alloc::{AllocError, Global};
 
 /// The exit status of sources that have a fault.
 const FAULTY: u8 = 1;
@@ -19,9 +19,20 @@ pub fn check_files<S: System>(
     options: GroundOptions,
     format: ReportFormat,
 ) -> Result<u8, JobError> {
-    let alloc: Global = system.alloc();
     let read = files_bytes(system, names)?;
-    let sources = borrowed(alloc, read.as_slice())?;
+    check_sources(system, names, read.as_slice(), options, format)
+}
+
+/// Prints what is wrong with sources that were read, or what they come to; the exit status.
+fn check_sources<S: System>(
+    system: &mut S,
+    names: &[&str],
+    read: &[Vec<u8>],
+    options: GroundOptions,
+    format: ReportFormat,
+) -> Result<u8, JobError> {
+    let alloc: Global = system.alloc();
+    let sources = borrowed(alloc, read)?;
     match check(alloc, names, sources.as_slice(), options) {
         Ok(report) => print_report(system, &report, names, format),
         Err(fault) => Err(fault_line(alloc, &fault, names)?),
@@ -35,33 +46,47 @@ fn print_report<S: System>(
     names: &[&str],
     format: ReportFormat,
 ) -> Result<u8, JobError> {
-    let text = report_text(system.alloc(), report, names, format)?;
+    let alloc: Global = system.alloc();
+    let mut text = String::new(alloc);
+    put_report(alloc, &mut text, report, names, format)?;
     print(system, text.as_bytes())?;
     Ok(if report.first.is_some() { FAULTY } else { 0 })
 }
 
-/// The faults one after the other, and then the warnings. For people there is a line more: how many faults there are, or what the
-/// sources come to.
-fn report_text(
+/// Adds the faults one after the other, and then the warnings. For people there is a line more: how many faults there are, or
+/// what the sources come to.
+fn put_report(
     alloc: Global,
+    text: &mut String,
     report: &Report,
     names: &[&str],
     format: ReportFormat,
-) -> Result<String, JobError> {
-    let mut text = String::new(alloc);
-    if let Some(first) = &report.first {
-        put_finding(alloc, &mut text, first, names, format)?;
-    }
-    for finding in &report.others {
-        put_finding(alloc, &mut text, finding, names, format)?;
-    }
+) -> Result<(), JobError> {
+    put_findings(alloc, text, report, names, format)?;
     if format == ReportFormat::Text {
         text.push_str(report.closing.as_str())?;
     }
     for warning in &report.warnings {
-        put_warning(alloc, &mut text, warning, names, format)?;
+        put_warning(alloc, text, warning, names, format)?;
     }
-    Ok(text)
+    Ok(())
+}
+
+/// Adds the faults one after the other.
+fn put_findings(
+    alloc: Global,
+    text: &mut String,
+    report: &Report,
+    names: &[&str],
+    format: ReportFormat,
+) -> Result<(), JobError> {
+    if let Some(first) = &report.first {
+        put_finding(alloc, text, first, names, format)?;
+    }
+    for finding in &report.others {
+        put_finding(alloc, text, finding, names, format)?;
+    }
+    Ok(())
 }
 
 /// Adds a fault.
@@ -90,12 +115,10 @@ fn put_finding_for_people(
     names: &[&str],
 ) -> Result<(), JobError> {
     match fault_line(alloc, &finding.fault, names)? {
-        JobError::Line(line) => text.push_str(line.as_str())?,
+        JobError::Line(line) => put_parts(text, &[line.as_str(), "\n"])?,
         other => return Err(other),
     }
-    text.push_str("\n")?;
-    finding.remark.put_to(text)?;
-    Ok(())
+    Ok(finding.remark.put_to(text)?)
 }
 
 /// Adds a warning.
@@ -105,13 +128,12 @@ fn put_warning(
     warning: &Remark,
     names: &[&str],
     format: ReportFormat,
-) -> Result<(), JobError> {
+) -> Result<(), AllocError> {
     match format {
-        ReportFormat::Text => put_warning_for_people(alloc, text, warning, names)?,
-        ReportFormat::Gcc => put_line_of_compilers(alloc, text, names, None, warning)?,
-        ReportFormat::Json => put_json(alloc, text, names, None, warning)?,
+        ReportFormat::Text => put_warning_for_people(alloc, text, warning, names),
+        ReportFormat::Gcc => put_line_of_compilers(alloc, text, names, None, warning),
+        ReportFormat::Json => put_json(alloc, text, names, None, warning),
     }
-    Ok(())
 }
 
 /// Adds a warning: its place, its sentence and its line.
@@ -120,7 +142,7 @@ fn put_warning_for_people(
     text: &mut String,
     warning: &Remark,
     names: &[&str],
-) -> Result<(), JobError> {
+) -> Result<(), AllocError> {
     if let Some(spot) = &warning.spot {
         let file = names.get(spot.file).copied().unwrap_or("");
         let line = spot.line;
@@ -128,6 +150,5 @@ fn put_warning_for_people(
         let head = format!(in alloc; "{file}:{line}: warning: {sentence}\n")?;
         text.push_str(head.as_str())?;
     }
-    text.push_str(warning.excerpt.as_str())?;
-    Ok(())
+    text.push_str(warning.excerpt.as_str())
 }

@@ -35,36 +35,38 @@ pub(crate) fn put_line_of_compilers(
 }
 
 /// Adds the line of a heading, how grave it is and what is said of it.
-fn put_heading(
+fn put_heading<'a>(
     alloc: Global,
     text: &mut String,
     heading: &Heading<'_>,
-    severity: &str,
-    message: &str,
+    severity: &'a str,
+    message: &'a str,
 ) -> Result<(), AllocError> {
     text.push_str(heading.file.unwrap_or("rv"))?;
-    if let Some(line) = heading.line {
-        put_number(alloc, text, line)?;
+    put_number(alloc, text, heading.line)?;
+    put_number(alloc, text, heading.column)?;
+    put_parts(text, &[": ", severity, ": ", message])?;
+    match &heading.code {
+        Some(code) => put_parts(text, &[" [", code.as_str(), "]\n"]),
+        None => text.push_str("\n"),
     }
-    if let Some(column) = heading.column {
-        put_number(alloc, text, column)?;
-    }
-    text.push_str(": ")?;
-    text.push_str(severity)?;
-    text.push_str(": ")?;
-    text.push_str(message)?;
-    if let Some(code) = &heading.code {
-        text.push_str(" [")?;
-        text.push_str(code.as_str())?;
-        text.push_str("]")?;
-    }
-    text.push_str("\n")
 }
 
-/// Adds a number behind a colon.
-fn put_number(alloc: Global, text: &mut String, number: u64) -> Result<(), AllocError> {
+/// Adds a number behind a colon, if it is known.
+fn put_number(alloc: Global, text: &mut String, known: Option<u64>) -> Result<(), AllocError> {
+    let Some(number) = known else {
+        return Ok(());
+    };
     let added = format!(in alloc; ":{number}")?;
     text.push_str(added.as_str())
+}
+
+/// Adds texts, one after another.
+pub(crate) fn put_parts(text: &mut String, parts: &[&str]) -> Result<(), AllocError> {
+    for part in parts {
+        text.push_str(part)?;
+    }
+    Ok(())
 }
 
 /// Adds a fault, or a warning, as an object of JSON in a line; what is not known of it is null.
@@ -76,8 +78,13 @@ pub(crate) fn put_json(
     remark: &Remark,
 ) -> Result<(), AllocError> {
     let found = finding_value(alloc, names, fault, remark)?;
-    text.push_str(found.to_string(alloc)?.as_str())?;
-    text.push_str("\n")
+    put_line(alloc, text, &found)
+}
+
+/// Adds the line of a value.
+fn put_line(alloc: Global, text: &mut String, value: &Value) -> Result<(), AllocError> {
+    let line = value.to_string(alloc)?;
+    put_parts(text, &[line.as_str(), "\n"])
 }
 
 /// A fault, or a warning, as an object of JSON; what is not known of it is null.
@@ -95,23 +102,42 @@ pub fn finding_value(
 }
 
 /// Adds a heading, how grave it is and what is said of it.
-fn put_finding(
+fn put_finding<'a>(
     alloc: Global,
     finding: &mut Map<String, Value>,
-    heading: &Heading<'_>,
-    severity: &str,
-    message: &str,
+    heading: &'a Heading<'a>,
+    severity: &'a str,
+    message: &'a str,
 ) -> Result<(), AllocError> {
-    put(finding, alloc, "file", text_or_null(alloc, heading.file)?)?;
     put(finding, alloc, "line", number_or_null(alloc, heading.line)?)?;
-    let column = number_or_null(alloc, heading.column)?;
-    put(finding, alloc, "column", column)?;
-    let severity = Value::try_from_str(alloc, severity)?;
-    put(finding, alloc, "severity", severity)?;
-    let code = text_or_null(alloc, heading.code.as_deref())?;
-    put(finding, alloc, "code", code)?;
-    let message = Value::try_from_str(alloc, message)?;
-    put(finding, alloc, "message", message)
+    put(
+        finding,
+        alloc,
+        "column",
+        number_or_null(alloc, heading.column)?,
+    )?;
+    put_texts(
+        alloc,
+        finding,
+        &[
+            ("file", heading.file),
+            ("severity", Some(severity)),
+            ("code", heading.code.as_deref()),
+            ("message", Some(message)),
+        ],
+    )
+}
+
+/// Adds members that are texts, as far as they are known.
+fn put_texts(
+    alloc: Global,
+    finding: &mut Map<String, Value>,
+    members: &[(&str, Option<&str>)],
+) -> Result<(), AllocError> {
+    for (name, text) in members {
+        put(finding, alloc, name, text_or_null(alloc, *text)?)?;
+    }
+    Ok(())
 }
 
 /// How grave a finding is.
