@@ -19,15 +19,23 @@ pub fn objdump<S: System>(
     exe_name: &str,
     map_first: bool,
 ) -> Result<u8, JobError> {
+    let (map, exe) = read_both(system, map_name, exe_name, map_first)?;
+    print_rows(
+        system,
+        (map_name, map.as_slice()),
+        (exe_name, exe.as_slice()),
+    )
+}
+
+/// Prints the listing of an executable by its map, each by its name and its bytes; the exit status.
+fn print_rows<S: System>(
+    system: &mut S,
+    map: (&str, &[u8]),
+    exe: (&str, &[u8]),
+) -> Result<u8, JobError> {
     let alloc: Global = system.alloc();
-    let (map, exe) = if map_first {
-        read_both(system, map_name, exe_name)?
-    } else {
-        let (exe, map) = read_both(system, exe_name, map_name)?;
-        (map, exe)
-    };
-    let map = map_in(alloc, map_name, map.as_slice())?;
-    let image = image_in(alloc, exe_name, exe.as_slice())?;
+    let map = map_in(alloc, map.0, map.1)?;
+    let image = image_in(alloc, exe.0, exe.1)?;
     let mut rows = ListedRows::new(alloc, &image, &map)?;
     print_parts(system, true, |text| rows.next(text))?;
     Ok(0)
@@ -51,17 +59,28 @@ pub fn raw<S: System>(system: &mut S, name: &str) -> Result<u8, JobError> {
 /// Prints the instructions of an object or an executable; the exit status.
 #[inline(never)]
 pub fn code<S: System>(system: &mut S, asked: &AskedCode<'_>) -> Result<u8, JobError> {
-    let alloc: Global = system.alloc();
     let (map, file) = read_code(system, asked)?;
+    print_code_of(system, asked, map.as_ref(), file.as_slice())
+}
+
+/// Prints the instructions of a file that was read, by its map if one is given; the exit status.
+fn print_code_of<S: System>(
+    system: &mut S,
+    asked: &AskedCode<'_>,
+    map: Option<&Map>,
+    file: &[u8],
+) -> Result<u8, JobError> {
+    let alloc: Global = system.alloc();
     let style = Style {
         aliases: asked.aliases,
     };
-    let shown = match CodeFile::of(alloc, file.as_slice(), map.as_ref(), style) {
-        Ok(shown) => shown,
-        Err(fault) => return Err(fault_line(alloc, &Fault::File(1, fault), &[asked.file])?),
-    };
-    check_code_map(alloc, asked, map.as_ref(), file.as_slice())?;
-    print_code(system, &shown, asked.file)
+    match CodeFile::of(alloc, file, map, style) {
+        Ok(shown) => {
+            check_code_map(alloc, asked, map, file)?;
+            print_code(system, &shown, asked.file)
+        }
+        Err(fault) => Err(fault_line(alloc, &Fault::File(1, fault), &[asked.file])?),
+    }
 }
 
 /// Refuses a map that is not the file's, if one is given.
@@ -95,12 +114,7 @@ fn read_code<S: System>(
     let Some(name) = asked.map else {
         return Ok((None, file_bytes(system, asked.file)?));
     };
-    let (map, file) = if asked.map_first {
-        read_both(system, name, asked.file)?
-    } else {
-        let (file, map) = read_both(system, asked.file, name)?;
-        (map, file)
-    };
+    let (map, file) = read_both(system, name, asked.file, asked.map_first)?;
     Ok((Some(map_in(alloc, name, map.as_slice())?), file))
 }
 
@@ -114,14 +128,27 @@ pub fn dump<S: System>(system: &mut S, name: &str) -> Result<u8, JobError> {
     Ok(0)
 }
 
-/// The bytes of two files, the first read before the second.
+/// The bytes of a map and of another file; whether the map is read first is told.
 fn read_both<S: System>(
+    system: &mut S,
+    map: &str,
+    file: &str,
+    map_first: bool,
+) -> Result<(Vec<u8>, Vec<u8>), JobError> {
+    if map_first {
+        return read_in_order(system, map, file);
+    }
+    let (file, map) = read_in_order(system, file, map)?;
+    Ok((map, file))
+}
+
+/// The bytes of two files, the first read before the second.
+fn read_in_order<S: System>(
     system: &mut S,
     first: &str,
     second: &str,
 ) -> Result<(Vec<u8>, Vec<u8>), JobError> {
-    let alloc: Global = system.alloc();
-    let one = file_bytes(system, first)?;
-    let other = file_bytes(system, second)?;
-    Ok((one, other))
+    let first = file_bytes(system, first)?;
+    let second = file_bytes(system, second)?;
+    Ok((first, second))
 }

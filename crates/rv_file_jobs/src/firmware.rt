@@ -11,11 +11,20 @@ use std::alloc::{AllocError, Global};
 pub fn write_image<S: System>(system: &mut S, asked: &AskedImage<'_>) -> Result<u8, JobError> {
     let alloc: Global = system.alloc();
     let file = file_bytes(system, asked.exe)?;
-    let firmware = match Firmware::of(alloc, file.as_slice()) {
-        Ok(firmware) => firmware,
-        Err(fault) => return Err(firmware_line(alloc, fault, asked.exe)?),
-    };
-    match image(alloc, &firmware, asked.format, asked.fill) {
+    match Firmware::of(alloc, file.as_slice()) {
+        Ok(firmware) => write_firmware(system, asked, &firmware),
+        Err(fault) => Err(firmware_line(alloc, fault, asked.exe)?),
+    }
+}
+
+/// Writes an image of what an executable loads; the exit status.
+fn write_firmware<S: System>(
+    system: &mut S,
+    asked: &AskedImage<'_>,
+    firmware: &Firmware<'_>,
+) -> Result<u8, JobError> {
+    let alloc: Global = system.alloc();
+    match image(alloc, firmware, asked.format, asked.fill) {
         Ok(image) => {
             write(system, asked.output, Purpose::ToRead, image.as_slice())?;
             Ok(0)

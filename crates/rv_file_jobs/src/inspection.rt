@@ -21,15 +21,20 @@ pub fn sizes<S: System>(
         OutputFormat::Json => SizeTable::of_objects(alloc),
     };
     for name in files {
-        let file = file_bytes(system, name)?;
-        match table.add(name, file.as_slice()) {
-            Ok(()) => {}
-            Err(fault) => return Err(refused(alloc, name, fault)?),
-        }
+        add_sizes(system, &mut table, name)?;
     }
     let text = table.finish()?;
     print(system, text.as_slice())?;
     Ok(0)
+}
+
+/// Adds the sizes of a file.
+fn add_sizes<S: System>(system: &mut S, table: &mut SizeTable, name: &str) -> Result<(), JobError> {
+    let file = file_bytes(system, name)?;
+    match table.add(name, file.as_slice()) {
+        Ok(()) => Ok(()),
+        Err(fault) => Err(refused(system.alloc(), name, fault)?),
+    }
 }
 
 /// Prints the names of a file, or those that the map of an executable has; the exit status.
@@ -68,11 +73,28 @@ fn names_by_map<S: System>(
     name: &str,
     format: OutputFormat,
 ) -> Result<u8, JobError> {
-    let alloc: Global = system.alloc();
     let text = file_bytes(system, map_name)?;
     let exe = file_bytes(system, name)?;
-    let map = map_in(alloc, map_name, text.as_slice())?;
-    let image = image_in(alloc, name, exe.as_slice())?;
+    print_map_names(
+        system,
+        (map_name, text.as_slice()),
+        (name, exe.as_slice()),
+        format,
+    )
+}
+
+/// Prints the names that a map has, which is to be an executable's, each by its name and its bytes; the exit status.
+fn print_map_names<S: System>(
+    system: &mut S,
+    map: (&str, &[u8]),
+    exe: (&str, &[u8]),
+    format: OutputFormat,
+) -> Result<u8, JobError> {
+    let alloc: Global = system.alloc();
+    let (map_name, text) = map;
+    let (name, exe) = exe;
+    let map = map_in(alloc, map_name, text)?;
+    let image = image_in(alloc, name, exe)?;
     check_fit(alloc, map_name, &map, name, &image)?;
     print_names(system, NameLines::of_map(alloc, &map)?, format)
 }
