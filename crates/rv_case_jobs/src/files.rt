@@ -44,19 +44,40 @@ fn add_folder(
 ) -> Result<(), JobError> {
     names.sort()?;
     let before = cases.len();
-    for name in &names {
-        if let Some(stem) = name.as_str().strip_suffix(".s") {
-            cases.push(CaseFiles {
-                source: joined(alloc, folder, name.as_str(), "")?,
-                input: beside(alloc, folder, names.as_slice(), stem, ".in")?,
-                console: beside(alloc, folder, names.as_slice(), stem, ".out")?,
-            })?;
-        }
-    }
+    add_sources(alloc, cases, folder, names.as_slice())?;
     if cases.len() == before {
         return Err(JobError::Line(format!(in alloc; "{folder}: no file of it is a case")?));
     }
     Ok(())
+}
+
+/// Adds the cases of a folder, whose files have these names, which are sorted.
+fn add_sources(
+    alloc: Global,
+    cases: &mut Vec<CaseFiles>,
+    folder: &str,
+    names: &[String],
+) -> Result<(), AllocError> {
+    for name in names {
+        if let Some(stem) = name.as_str().strip_suffix(".s") {
+            cases.push(case_of(alloc, folder, names, stem)?)?;
+        }
+    }
+    Ok(())
+}
+
+/// The files of the case of this stem.
+fn case_of(
+    alloc: Global,
+    folder: &str,
+    names: &[String],
+    stem: &str,
+) -> Result<CaseFiles, AllocError> {
+    Ok(CaseFiles {
+        source: joined(alloc, folder, stem, ".s")?,
+        input: beside(alloc, folder, names, stem, ".in")?,
+        console: beside(alloc, folder, names, stem, ".out")?,
+    })
 }
 
 /// The file of this stem and this ending, if a folder has it; the names are sorted.

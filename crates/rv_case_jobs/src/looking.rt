@@ -1,7 +1,8 @@
 //! A second look at a run that did not exit: where it ended, and by which access.
 
-use rv_chain::build_on;
+use rv_chain::{Built, build_on};
 use rv_guests::Console;
+use rv_image::Image;
 use rv_job::default_options;
 use rv_machine::{End, Io, Watched, run_watched};
 use rv_memory::Paged;
@@ -21,36 +22,65 @@ pub(crate) fn put_report(
     input: &[u8],
     most: u64,
 ) -> Result<(), JobError> {
-    let built = match build_on(alloc, &[source], default_options()) {
-        Ok(built) => built,
-        Err(fault) => return Err(fault_line(alloc, &fault, &[name])?),
-    };
-    let map = map_in(alloc, name, built.map.as_slice())?;
-    let image = image_in(alloc, name, built.exe.as_slice())?;
+    match build_on(alloc, &[source], default_options()) {
+        Ok(built) => {
+            let source = Source { name, text: source };
+            put_built(alloc, details, source, &built, input, most)
+        }
+        Err(fault) => Err(fault_line(alloc, &fault, &[name])?),
+    }
+}
+
+/// Adds those lines of what the source was built into.
+fn put_built(
+    alloc: Global,
+    details: &mut String,
+    source: Source<'_>,
+    built: &Built,
+    input: &[u8],
+    most: u64,
+) -> Result<(), JobError> {
+    let map = map_in(alloc, source.name, built.map.as_slice())?;
+    let image = image_in(alloc, source.name, built.exe.as_slice())?;
+    match Places::new(alloc, Some(&map), &[source]) {
+        Ok(places) => put_ran(alloc, details, image, &places, input, most),
+        Err(fault) => Err(fault_line(alloc, &fault, &[source.name])?),
+    }
+}
+
+/// Adds those lines of how an image ran.
+fn put_ran(
+    alloc: Global,
+    details: &mut String,
+    image: Image,
+    places: &Places<'_>,
+    input: &[u8],
+    most: u64,
+) -> Result<(), JobError> {
     let segments = Segments::of(alloc, &image)?;
-    let named = [Source { name, text: source }];
-    let places = match Places::new(alloc, Some(&map), &named) {
-        Ok(places) => places,
-        Err(fault) => return Err(fault_line(alloc, &fault, &[name])?),
-    };
     let entry = image.entry;
     let mut machine = Watched::new(Paged::new(alloc, image)?, entry);
     let mut latest = Latest::new();
-    if let Some(end) = looked_at(alloc, &mut machine, &mut latest, input, most) {
-        let text = report_text(
-            alloc,
-            &machine,
-            &latest,
-            &places,
-            &segments,
-            Ending::By(end),
-        )?;
-        put_lines(
-            details,
-            String::from_utf8_lossy(alloc, text.as_slice())?.as_str(),
-        )?;
+    match looked_at(alloc, &mut machine, &mut latest, input, most) {
+        Some(end) => put_end(alloc, details, &machine, &latest, (places, &segments), end),
+        None => Ok(()),
     }
-    Ok(())
+}
+
+/// Adds those lines of a machine that came to an end.
+fn put_end(
+    alloc: Global,
+    details: &mut String,
+    machine: &Watched<Paged>,
+    latest: &Latest,
+    known: (&Places<'_>, &Segments),
+    end: End,
+) -> Result<(), JobError> {
+    let (places, segments) = known;
+    let ending = Ending::By(end);
+    let text = report_text(alloc, machine, latest, places, segments, ending)?;
+    let report = String::from_utf8_lossy(alloc, text.as_slice())?;
+    Ok(put_lines(details, report.as_str())?)
 }
 
 /// Runs a machine to its end, unless that is far.
@@ -77,9 +107,14 @@ fn put_lines(details: &mut String, report: &str) -> Result<(), AllocError> {
         if line == "cure" || line == "registers" {
             break;
         }
-        details.push_str("  ")?;
-        details.push_str(line)?;
-        details.push('\n')?;
+        put_line(details, line)?;
     }
     Ok(())
+}
+
+/// Adds a line, which is indented.
+fn put_line(details: &mut String, line: &str) -> Result<(), AllocError> {
+    details.push_str("  ")?;
+    details.push_str(line)?;
+    details.push_str("\n")
 }

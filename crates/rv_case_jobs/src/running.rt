@@ -31,14 +31,19 @@ pub fn run_cases<S: System>(system: &mut S, asked: &AskedCases<'_>) -> Result<u8
     for files in &cases {
         run_case(system, asked, files, &mut sum, &mut elements)?;
     }
-    let mut text = Vec::new(alloc);
-    put_sum(alloc, &mut text, sum, asked.json)?;
-    print(system, text.as_slice())?;
+    print_sum(system, sum, asked.json)?;
     if let Some(name) = asked.junit {
         let report = test_suites(alloc, elements.as_str(), sum)?;
         write(system, name, Purpose::ToRead, report.as_bytes())?;
     }
     Ok(status(sum.failed))
+}
+
+/// Prints the sum.
+fn print_sum<S: System>(system: &mut S, sum: Sum, is_json: bool) -> Result<(), JobError> {
+    let mut text = Vec::new(system.alloc());
+    put_sum(system.alloc(), &mut text, sum, is_json)?;
+    print(system, text.as_slice())
 }
 
 /// Runs a case, adds it to the sum and to the elements of a report, and prints what is said of it.

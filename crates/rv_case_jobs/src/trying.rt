@@ -37,13 +37,23 @@ fn failure_of<S: System>(
     let source = given_bytes(system, name)?;
     let input = beside(system, files.input.as_deref())?;
     let console = beside(system, files.console.as_deref())?;
-    let case = match Case::of(alloc, source.as_slice(), input, console) {
-        Ok(case) => case,
-        Err(error) => return Err(case_line(alloc, name, error)?),
-    };
-    match build_exe_on(alloc, &[source.as_slice()], default_options()) {
-        Ok(exe) => built_failure(alloc, name, source.as_slice(), &case, exe.as_slice(), limit),
-        Err(fault) => refused_failure(alloc, name, &case, &fault),
+    match Case::of(alloc, source.as_slice(), input, console) {
+        Ok(case) => case_failure(alloc, name, source.as_slice(), &case, limit),
+        Err(error) => Err(case_line(alloc, name, error)?),
+    }
+}
+
+/// What is wrong with a case of this name and source, or nothing.
+fn case_failure(
+    alloc: Global,
+    name: &str,
+    source: &[u8],
+    case: &Case,
+    limit: u64,
+) -> Result<Option<Failure>, JobError> {
+    match build_exe_on(alloc, &[source], default_options()) {
+        Ok(exe) => built_failure(alloc, name, source, case, exe.as_slice(), limit),
+        Err(fault) => refused_failure(alloc, name, case, &fault),
     }
 }
 
@@ -57,13 +67,12 @@ fn beside<S: System>(system: &mut S, name: Option<&str>) -> Result<Option<Vec<u8
 
 /// The line of a source that is no case.
 fn case_line(alloc: Global, name: &str, error: CaseError) -> Result<JobError, AllocError> {
-    match error {
-        CaseError::Wrong(Some(line), fault) => {
-            Ok(JobError::Line(format!(in alloc; "{name}:{line}: {fault}")?))
-        }
-        CaseError::Wrong(None, fault) => Ok(JobError::Line(format!(in alloc; "{name}: {fault}")?)),
-        CaseError::Memory => Ok(JobError::Memory),
-    }
+    let line = match error {
+        CaseError::Wrong(Some(line), fault) => format!(in alloc; "{name}:{line}: {fault}")?,
+        CaseError::Wrong(None, fault) => format!(in alloc; "{name}: {fault}")?,
+        CaseError::Memory => return Ok(JobError::Memory),
+    };
+    Ok(JobError::Line(line))
 }
 
 /// What is wrong where a build is refused.
