@@ -5,6 +5,7 @@ use crate::given::{Given, Held, value_of};
 use crate::members::{put_end, put_end_line, put_faults, put_text};
 use rv_chain::{build_exe_on, build_on};
 use rv_guests::{KeptFault, run_counted, run_kept, status_of};
+use rv_image::Image;
 use rv_job::default_options;
 use rv_json::number;
 use rv_machine::Outcome;
@@ -153,34 +154,39 @@ fn answer_sources<S: System>(
             default_options(),
         )?;
     }
-    let exe = executable(system, call, names.as_slice(), texts.as_slice(), members)?;
+    let exe = executable(alloc, call, names.as_slice(), texts.as_slice(), members)?;
     let name = names.first().copied().unwrap_or("");
     answer_executable(system, call, name, exe.as_slice(), members)
 }
 
 /// What sources build; their map is added where it is wanted.
-fn executable<S: System>(
-    system: &S,
+fn executable(
+    alloc: Global,
     call: &Call<'_>,
     names: &[&str],
     texts: &[&[u8]],
     members: &mut Map<String, Value>,
 ) -> Result<Vec<u8>, JobError> {
-    let alloc: Global = system.alloc();
-    if !call.wants.map {
-        return match build_exe_on(alloc, texts, default_options()) {
-            Ok(exe) => Ok(exe),
-            Err(fault) => Err(fault_line(alloc, &fault, names)?),
-        };
+    if call.wants.map {
+        return executable_and_map(alloc, names, texts, members);
     }
+    match build_exe_on(alloc, texts, default_options()) {
+        Ok(exe) => Ok(exe),
+        Err(fault) => Err(fault_line(alloc, &fault, names)?),
+    }
+}
+
+/// What sources build, whose map is added.
+fn executable_and_map(
+    alloc: Global,
+    names: &[&str],
+    texts: &[&[u8]],
+    members: &mut Map<String, Value>,
+) -> Result<Vec<u8>, JobError> {
     match build_on(alloc, texts, default_options()) {
         Ok(built) => {
-            put(
-                members,
-                alloc,
-                "map",
-                value_of(alloc, built.map.as_slice())?,
-            )?;
+            let map = value_of(alloc, built.map.as_slice())?;
+            put(members, alloc, "map", map)?;
             Ok(built.exe)
         }
         Err(fault) => Err(fault_line(alloc, &fault, names)?),
@@ -221,13 +227,17 @@ fn borrowed_names<'a>(alloc: Global, owned: &'a [String]) -> Result<Vec<&'a str>
 fn names_of(alloc: Global, sources: &[GivenSource<'_>]) -> Result<Vec<String>, AllocError> {
     let mut names = Vec::new(alloc);
     for (index, source) in sources.iter().enumerate() {
-        let number = index.saturating_add(1);
-        names.push(match (source.name, source.text) {
-            (Some(name), _) | (None, Given::File(name)) => String::from_str(alloc, name)?,
-            _ => format!(in alloc; "{number}.s")?,
-        })?;
+        names.push(name_of(alloc, source, index.saturating_add(1))?)?;
     }
     Ok(names)
+}
+
+/// The name of a source by its number, from 1.
+fn name_of(alloc: Global, source: &GivenSource<'_>, number: usize) -> Result<String, AllocError> {
+    match (source.name, source.text) {
+        (Some(name), _) | (None, Given::File(name)) => String::from_str(alloc, name),
+        _ => format!(in alloc; "{number}.s"),
+    }
 }
 
 /// Loads an executable, runs it where something of the run is wanted, and adds that; the status.
@@ -244,16 +254,49 @@ fn answer_executable<S: System>(
         return Ok(0);
     }
     let input = call.input.held(system)?;
-    if !call.wants.count {
-        let ran = run_kept(alloc, image, input.as_slice(), call.limit);
-        return put_outcome(alloc, call, members, ran);
+    let outcome = run(alloc, call, image, input.as_slice(), members)?;
+    put_outcome(alloc, call, &outcome, members)
+}
+
+/// Runs an image; how many instructions it executed is added where that is wanted.
+fn run(
+    alloc: Global,
+    call: &Call<'_>,
+    image: Image,
+    input: &[u8],
+    members: &mut Map<String, Value>,
+) -> Result<Outcome, JobError> {
+    if call.wants.count {
+        return run_and_count(alloc, image, input, call.limit, members);
     }
-    match run_counted(alloc, image, input.as_slice(), call.limit) {
+    match run_kept(alloc, image, input, call.limit) {
+        Ok(outcome) => Ok(outcome),
+        Err(fault) => Err(kept_line(alloc, fault)?),
+    }
+}
+
+/// Runs an image, whose count of instructions is added.
+fn run_and_count(
+    alloc: Global,
+    image: Image,
+    input: &[u8],
+    limit: u64,
+    members: &mut Map<String, Value>,
+) -> Result<Outcome, JobError> {
+    match run_counted(alloc, image, input, limit) {
         Ok((outcome, count)) => {
             put(members, alloc, "count", number(alloc, count)?)?;
-            put_outcome(alloc, call, members, Ok(outcome))
+            Ok(outcome)
         }
-        Err(fault) => put_outcome(alloc, call, members, Err(fault)),
+        Err(fault) => Err(kept_line(alloc, fault)?),
+    }
+}
+
+/// The line of a run that came to no end.
+fn kept_line(alloc: Global, fault: KeptFault) -> Result<JobError, AllocError> {
+    match fault {
+        KeptFault::ConsoleLimit => Ok(JobError::Line(format!(in alloc; "{fault}")?)),
+        KeptFault::Memory => Ok(JobError::Memory),
     }
 }
 
@@ -261,24 +304,12 @@ fn answer_executable<S: System>(
 fn put_outcome(
     alloc: Global,
     call: &Call<'_>,
+    outcome: &Outcome,
     members: &mut Map<String, Value>,
-    ran: Result<Outcome, KeptFault>,
 ) -> Result<u8, JobError> {
-    let outcome = match ran {
-        Ok(outcome) => outcome,
-        Err(KeptFault::Memory) => return Err(JobError::Memory),
-        Err(KeptFault::ConsoleLimit) => {
-            let fault = KeptFault::ConsoleLimit;
-            return Err(JobError::Line(format!(in alloc; "{fault}")?));
-        }
-    };
     if call.wants.console {
-        put(
-            members,
-            alloc,
-            "console",
-            value_of(alloc, outcome.console.as_slice())?,
-        )?;
+        let console = value_of(alloc, outcome.console.as_slice())?;
+        put(members, alloc, "console", console)?;
     }
     if call.wants.end {
         put_end(alloc, members, &outcome.end)?;

@@ -23,20 +23,43 @@ pub fn answer_calls<S: System>(system: &mut S, limit: u64) -> Result<u8, JobErro
     let mut piece = vec![in alloc; 0u8; PIECE]?;
     let mut line = Line::new(alloc);
     let mut answers = Answers::new(alloc)?;
+    answer_pieces(system, piece.as_mut_slice(), &mut line, &mut answers, limit)?;
+    answer_rest(system, &mut line, &mut answers, limit)?;
+    Ok(0)
+}
+
+/// Answers the lines that end in standard input, which is read piece by piece.
+fn answer_pieces<S: System>(
+    system: &mut S,
+    piece: &mut [u8],
+    line: &mut Line,
+    answers: &mut Answers,
+    limit: u64,
+) -> Result<(), JobError> {
     for _ in 0..u64::MAX {
-        let Ok(count) = system.next_input(piece.as_mut_slice()) else {
-            return Err(cannot(alloc, "read", "-")?);
+        let Ok(count) = system.next_input(piece) else {
+            return Err(cannot(system.alloc(), "read", "-")?);
         };
         if count == 0 {
             break;
         }
-        answer_lines(system, &mut line, &mut answers, &piece[..count], limit)?;
+        answer_lines(system, line, answers, &piece[..count], limit)?;
     }
-    if !line.is_empty() {
-        answer_line(system, &mut line, &mut answers, limit)?;
-        answers.write(system)?;
+    Ok(())
+}
+
+/// Answers the last line, if it has no line feed.
+fn answer_rest<S: System>(
+    system: &mut S,
+    line: &mut Line,
+    answers: &mut Answers,
+    limit: u64,
+) -> Result<(), JobError> {
+    if line.is_empty() {
+        return Ok(());
     }
-    Ok(0)
+    answer_line(system, line, answers, limit)?;
+    answers.write(system)
 }
 
 /// Answers the lines that end in what came, of which the first has begun before, and writes the answers; what is left is the

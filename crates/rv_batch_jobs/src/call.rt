@@ -62,9 +62,14 @@ impl<'v> GivenSource<'v> {
                 text: Given::Text(text),
             });
         }
-        let Some(object) = value.as_object() else {
-            return Err(CallError::NoSource);
-        };
+        match value.as_object() {
+            Some(object) => GivenSource::of_object(object),
+            None => Err(CallError::NoSource),
+        }
+    }
+
+    /// Reads an object with a text or what stands for it.
+    fn of_object(object: &'v Map<String, Value>) -> Result<GivenSource<'v>, CallError> {
         let mut name = None;
         let mut given = None;
         for (member, value) in object.iter() {
@@ -73,16 +78,23 @@ impl<'v> GivenSource<'v> {
             };
             match member.as_str() {
                 "name" => name = Some(said),
-                "text" => set(&mut given, Given::Text(said))?,
-                "base64" => set(&mut given, Given::Base64(said))?,
-                "file" => set(&mut given, Given::File(said))?,
-                _ => return Err(CallError::NoSource),
+                kind => set(&mut given, given_as(kind, said)?)?,
             }
         }
         match given {
             Some(text) => Ok(GivenSource { name, text }),
             None => Err(CallError::NoSource),
         }
+    }
+}
+
+/// What a source is by a member of this name.
+fn given_as<'v>(kind: &str, said: &'v str) -> Result<Given<'v>, CallError> {
+    match kind {
+        "text" => Ok(Given::Text(said)),
+        "base64" => Ok(Given::Base64(said)),
+        "file" => Ok(Given::File(said)),
+        _ => Err(CallError::NoSource),
     }
 }
 
@@ -127,21 +139,12 @@ impl<'v> Call<'v> {
         object: &'v Map<String, Value>,
         limit: u64,
     ) -> Result<Call<'v>, CallError> {
-        let mut members = Members {
-            program: None,
-            input: Given::Text(""),
-            limit,
-            wants: Wants::default_wants(),
-        };
-        for (name, value) in object.iter() {
-            members.add(alloc, name.as_str(), value)?;
-        }
         let Members {
             program,
             input,
             limit,
             wants,
-        } = members;
+        } = Members::of(alloc, object, limit)?;
         let Some(program) = program else {
             return Err(CallError::NoProgram);
         };
@@ -158,6 +161,24 @@ impl<'v> Call<'v> {
 }
 
 impl<'v> Members<'v> {
+    /// Those of an object; `limit` stands for what it does not say.
+    fn of(
+        alloc: Global,
+        object: &'v Map<String, Value>,
+        limit: u64,
+    ) -> Result<Members<'v>, CallError> {
+        let mut members = Members {
+            program: None,
+            input: Given::Text(""),
+            limit,
+            wants: Wants::default_wants(),
+        };
+        for (name, value) in object.iter() {
+            members.add(alloc, name.as_str(), value)?;
+        }
+        Ok(members)
+    }
+
     /// Adds a member.
     fn add(&mut self, alloc: Global, name: &str, value: &'v Value) -> Result<(), CallError> {
         match name {

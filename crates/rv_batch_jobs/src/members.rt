@@ -1,7 +1,7 @@
 //! The members of an answer.
 
 use rv_chain::GroundOptions;
-use rv_check::{Report, check};
+use rv_check::{Finding, Report, check};
 use rv_guests::end_line;
 use rv_machine::End;
 use rv_source_jobs::finding_value;
@@ -58,12 +58,20 @@ pub(crate) fn put_faults(
     options: GroundOptions,
 ) -> Result<(), JobError> {
     match check(alloc, names, sources, options) {
-        Ok(report) => {
-            put(members, alloc, "faults", findings(alloc, names, &report)?)?;
-            Ok(())
-        }
+        Ok(report) => put_report(alloc, members, names, &report),
         Err(fault) => Err(fault_line(alloc, &fault, names)?),
     }
+}
+
+/// Adds the findings of a report.
+fn put_report(
+    alloc: Global,
+    members: &mut Map<String, Value>,
+    names: &[&str],
+    report: &Report,
+) -> Result<(), JobError> {
+    let findings = findings(alloc, names, report)?;
+    Ok(put(members, alloc, "faults", findings)?)
 }
 
 /// The findings of a report, as a list of JSON.
@@ -81,13 +89,32 @@ fn put_findings(
     report: &Report,
 ) -> Result<(), AllocError> {
     if let Some(first) = &report.first {
-        let finding = finding_value(alloc, names, Some(&first.fault), &first.remark)?;
-        push(findings, finding)?;
+        put_finding(alloc, findings, names, first)?;
     }
     for other in &report.others {
-        let finding = finding_value(alloc, names, Some(&other.fault), &other.remark)?;
-        push(findings, finding)?;
+        put_finding(alloc, findings, names, other)?;
     }
+    put_warnings(alloc, findings, names, report)
+}
+
+/// Adds a finding.
+fn put_finding(
+    alloc: Global,
+    findings: &mut Vec<Value>,
+    names: &[&str],
+    finding: &Finding,
+) -> Result<(), AllocError> {
+    let value = finding_value(alloc, names, Some(&finding.fault), &finding.remark)?;
+    push(findings, value)
+}
+
+/// Adds the warnings of a report.
+fn put_warnings(
+    alloc: Global,
+    findings: &mut Vec<Value>,
+    names: &[&str],
+    report: &Report,
+) -> Result<(), AllocError> {
     for warning in &report.warnings {
         push(findings, finding_value(alloc, names, None, warning)?)?;
     }

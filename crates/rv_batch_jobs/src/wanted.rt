@@ -46,16 +46,22 @@ impl Wants {
             return Err(CallError::NoList("want"));
         };
         for name in names {
-            match name.as_str() {
-                Some("console") => wants.console = true,
-                Some("end") => wants.end = true,
-                Some("count") => wants.count = true,
-                Some("map") => wants.map = true,
-                Some("faults") => wants.faults = true,
-                _ => return Err(CallError::UnknownWant),
-            }
+            wants.add(name.as_str().unwrap_or(""))?;
         }
         Ok(wants)
+    }
+
+    /// Adds what a name says.
+    fn add(&mut self, name: &str) -> Result<(), CallError> {
+        match name {
+            "console" => self.console = true,
+            "end" => self.end = true,
+            "count" => self.count = true,
+            "map" => self.map = true,
+            "faults" => self.faults = true,
+            _ => return Err(CallError::UnknownWant),
+        }
+        Ok(())
     }
 
     /// Whether the program is run.
