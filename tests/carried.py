@@ -8,6 +8,9 @@ debug section that it makes is then the one of rv (System V gABI, "Relocation"; 
 where code is left out, so that addresses become 0, or 1 in .debug_ranges. In front of GNU's .debug_abbrev stand those of
 rv's own units, which it always has. With relaxation, which GNU does otherwise, readelf reads each function at its address.
 
+Of the sources that GCC writes, `rv build -g` makes what is loaded without `-g`, and the debug sections that `rv ld -g`
+makes of their objects by `rv as -g`; also where one stands in an archive, and --defsym uses names of the program.
+
 Without GCC for RISC-V nothing is tested. Standard library alone; the last line is 'N passed, M failed'.
 """
 
@@ -77,6 +80,8 @@ WORDS = (
     "-O1 -g -gdwarf-4 -mno-relax",
     "-O3 -gdwarf-3 -ffunction-sections",
 )
+AS_DATA = "-gno-as-loc-support -fno-dwarf2-cfi-asm -fdata-sections -fno-ipa-icf"
+DEFINED = "--defsym heap=_end+16 --defsym half=main-_start"
 SCRIPT = """
 ENTRY(_start)
 SECTIONS {
@@ -148,6 +153,39 @@ def misplaced(folder):
     return [it for it in sorted(wanted) if found.get(it) != int(globals_[it], 16)]
 
 
+def is_loaded_as(plain, file):
+    """Whether a file is loaded as another one: that stands in front, but for what leads to the section headers."""
+    front = bytearray(file[: len(plain)])
+    front[40:48], front[58:64] = plain[40:48], plain[58:64]
+    return front == plain
+
+
+def misbuilt(folder, words):
+    """What is wrong in builds of the sources that GCC writes."""
+    for name in ("first", "second"):
+        call(folder, f"{GNU}gcc {MACHINE} {words} {AS_DATA} -S -o {name}.s {name}.c")
+    for name in ("start", "first", "second"):
+        call(folder, f"{RV} as -g -o {name}-rv.o {name}.s")
+    call(folder, f"{GNU}ar rcs second.a second-rv.o")
+    wrong = []
+    for sources, objects, behind in (
+        ("start.s first.s second.s", "start-rv.o first-rv.o second-rv.o", ""),
+        ("start.s first.s", "start-rv.o first-rv.o", "--library second.a"),
+        ("start.s first.s second.s", "start-rv.o first-rv.o second-rv.o", "--gc-sections"),
+        ("start.s first.s second.s", "start-rv.o first-rv.o second-rv.o", DEFINED),
+        ("start.s first.s", "start-rv.o first-rv.o", f"{DEFINED} --library second.a"),
+    ):
+        call(folder, f"{RV} build -o plain --map plain-map {sources} {behind}")
+        call(folder, f"{RV} build -g -o built --map built-map {sources} {behind}")
+        call(folder, f"{RV} ld -g -o linked {objects} {behind}")
+        plain, built, linked = ((folder / it).read_bytes() for it in ("plain", "built", "linked"))
+        came, wanted = sections(built), sections(linked)
+        wrong += [f"{it} ({behind})" for it in sorted({*came, *wanted}) if ".debug_" in it and came.get(it) != wanted.get(it)]
+        wrong += [f"image ({behind})"] * (not is_loaded_as(plain, built))
+        wrong += [f"map ({behind})"] * ((folder / "plain-map").read_bytes() != (folder / "built-map").read_bytes())
+    return wrong
+
+
 def main():
     if not shutil.which(f"{GNU}gcc"):
         print(f"no {GNU}gcc: nothing tested")
@@ -162,6 +200,7 @@ def main():
                 ("all", compared(folder, "")),
                 ("what is reached", compared(folder, "--gc-sections")),
                 ("relaxed", misplaced(folder)),
+                ("sources", misbuilt(folder, words)),
             ):
                 passed += not wrong
                 failed += bool(wrong)

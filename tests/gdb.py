@@ -2,9 +2,11 @@
 """Debugs programs with gdb over `rv gdb`, and compares what gdb says: tests/gdb/NAME.gdb.
 
 The head of a session has `# KEY: VALUE`: `rv`, the words of `rv gdb` (prog.s, or prog where it is made); `build`, the
-sources of which `rv build -g` makes it; `link`, those of which `rv as -g` and `rv ld -g` make it; `gcc`, more words for GCC, which then links start.s and prog.c; `objects`, more words
-for GCC, which then makes an object of prog.c, that `rv ld -g` links behind that of start.s; `file NAME`,
-all of a file when the session is over, with the escapes of C. A line `#--- NAME` begins a file. Behind `#--- session` a
+sources of which `rv build -g` makes it; `link`, those of which `rv as -g` and `rv ld -g` make it; `gcc`, more words for
+GCC, which then links start.s and prog.c; `objects`, more words for GCC, which then makes an object of prog.c, that `rv ld
+-g` links behind that of start.s; `compiled`, more words for GCC, which first makes prog.s of prog.c, with debug
+information as data; `archived`, more words for GCC, which first makes the archive prog.a of library.c; `file NAME`, all
+of a file when the session is over, with the escapes of C. A line `#--- NAME` begins a file. Behind `#--- session` a
 command stands as `(gdb) COMMAND`, and below it what gdb says, blank lines at its ends aside; a line `...` is any lines.
 Expected values come from the source of the program, and the words around them from gdb.
 
@@ -24,6 +26,7 @@ RV = TESTS.parent / "rv"
 GDB = "gdb-multiarch"
 GCC = "riscv64-unknown-elf-gcc"
 LINKED = "-g -mabi=lp64 -nostdlib -nostartfiles -Wl,-Ttext=0x10000,--no-warn-rwx-segments"
+AS_DATA = "-g -mabi=lp64 -gno-as-loc-support -fno-dwarf2-cfi-asm"
 MARK = "<<<next>>>"
 
 
@@ -81,6 +84,12 @@ def link_object(folder, words):
     subprocess.run([RV, "ld", "-g", "-o", "prog", "start.o", "prog.o"], cwd=folder, check=True, timeout=60)
 
 
+def archive(folder, words):
+    """Makes an archive of an object of GCC."""
+    subprocess.run(f"{GCC} -g -mabi=lp64 {words} -c -o library.o library.c".split(), cwd=folder, check=True, timeout=60)
+    subprocess.run([GCC.replace("gcc", "ar"), "rcs", "prog.a", "library.o"], cwd=folder, check=True, timeout=60)
+
+
 def faults(path):
     """What is wrong in a session; None where a tool is missing."""
     keys, files, session = parts_of(path.read_text())
@@ -89,8 +98,13 @@ def faults(path):
         folder = Path(name)
         for file, text in files.items():
             (folder / file).write_text(text)
-        if {"gcc", "objects"} & {*values} and not shutil.which(GCC):
+        if {"gcc", "objects", "compiled", "archived"} & {*values} and not shutil.which(GCC):
             return None
+        if "compiled" in values:
+            words = f"{GCC} {AS_DATA} {values['compiled']} -S -o prog.s prog.c"
+            subprocess.run(words.split(), cwd=folder, check=True, timeout=60)
+        if "archived" in values:
+            archive(folder, values["archived"])
         if "objects" in values:
             link_object(folder, values["objects"])
         if "gcc" in values:

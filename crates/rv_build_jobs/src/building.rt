@@ -3,8 +3,9 @@
 //! A job writes no file before all that it writes is made.
 
 use crate::additions::Inputs;
-use crate::debug_objects::object_for_debuggers;
-use crate::debugging::{debugged, paths_of_names, source_objects};
+use crate::carrying::{addresses_of, debugged_with_sections};
+use crate::debug_objects::{object_for_debuggers, objects_of_sources};
+use crate::debugging::{file_objects, paths_of_names, source_objects};
 use crate::defining::Definitions;
 use crate::files::{linked_files, object_files};
 use crate::linking::link_inputs;
@@ -201,9 +202,9 @@ pub(crate) fn build_with_map<S: System>(
     )
 }
 
-/// Builds sources: the executable, with names and lines behind it, and its map.
+/// Builds sources: the executable, with names and lines and the sources' debug sections behind it, and its map.
 fn build_for_debuggers<S: System>(
-    system: &S,
+    system: &mut S,
     exe: &str,
     inputs: &Inputs<'_>,
     settings: LinkSettings,
@@ -218,14 +219,25 @@ fn build_for_debuggers<S: System>(
         settings.options,
         settings.explains,
     )?;
-    let objects = source_objects(alloc, names, sources.as_slice())?;
+    let described = source_objects(alloc, names, sources.as_slice())?;
     let paths = paths_of_names(alloc, names)?;
-    debugged(
+    let files = objects_of_sources(system, names, sources.as_slice())?;
+    let files = borrowed(alloc, files.as_slice())?;
+    let objects = file_objects(alloc, names, files.as_slice())?;
+    let addresses = addresses_of(
+        alloc,
+        names,
+        files.as_slice(),
+        objects.as_slice(),
+        settings.options,
+    )?;
+    debugged_with_sections(
         system,
         exe,
         paths.as_slice(),
-        objects.as_slice(),
-        None,
+        described.as_slice(),
+        files.as_slice(),
+        addresses.as_slice(),
         built,
     )
 }

@@ -3,8 +3,9 @@
 //! What a compiler says of its source stands beside what the map says. An object that has the lines of its code gets no lines
 //! of the assembly that the compiler wrote.
 
+use crate::debugging::debugged;
 use rv_chain::{Built, Fault, GroundOptions};
-use rv_debug::Object;
+use rv_debug::{Described, Object};
 use rv_debug_sections::{
     Carried, CarryFault, has_debug_sections, has_line_table, with_sections_of,
 };
@@ -14,18 +15,18 @@ use rv_map::{read, write};
 use rv_system::{JobError, System, fault_line};
 use std::alloc::{AllocError, Global};
 
-/// Whether some of these objects have a debug section.
-pub(crate) fn has_any_section(objects: &[&[u8]]) -> bool {
-    objects.iter().any(|object| has_debug_sections(object))
-}
-
-/// The addresses that a link gives the symbols of objects with these names: by object and symbol.
+/// The addresses that a link gives the symbols of the objects of files with these names: by object and symbol; none where no
+/// file has a debug section.
 pub(crate) fn addresses_of(
     alloc: Global,
     names: &[&str],
+    files: &[&[u8]],
     objects: &[Object<'_>],
     options: GroundOptions,
 ) -> Result<Vec<Vec<Option<u64>>>, JobError> {
+    if !files.iter().any(|file| has_debug_sections(file)) {
+        return Ok(Vec::new(alloc));
+    }
     match symbol_extents_on(alloc, objects, &[], options) {
         Ok(extents) => {
             let mut addresses: Vec<Vec<Option<u64>>> = Vec::new(alloc);
@@ -52,7 +53,7 @@ fn addresses_in(
 }
 
 /// The text of a map in which rows of objects with lines of their own have no code; none where no object has some.
-pub(crate) fn map_of_lines(
+fn map_of_lines(
     alloc: Global,
     map: &[u8],
     objects: &[&[u8]],
@@ -83,8 +84,27 @@ fn is_among(skipped: &[bool], file: u64) -> bool {
     }
 }
 
+/// What was built of these objects, whose sources have these paths, with names and lines, and, if the addresses of their
+/// symbols are given, with the debug sections of their files.
+pub(crate) fn debugged_with_sections<S: System>(
+    system: &S,
+    exe: &str,
+    paths: &[Vec<u8>],
+    described: &[Described<'_>],
+    files: &[&[u8]],
+    addresses: &[Vec<Option<u64>>],
+    built: Built,
+) -> Result<Built, JobError> {
+    if addresses.is_empty() {
+        return debugged(system, exe, paths, described, None, built);
+    }
+    let lines = map_of_lines(system.alloc(), built.map.as_slice(), files)?;
+    let built = debugged(system, exe, paths, described, lines.as_deref(), built)?;
+    with_sections(system, exe, files, addresses, built)
+}
+
 /// What was built of objects whose symbols have these addresses, with the debug sections of the objects.
-pub(crate) fn with_sections<S: System>(
+fn with_sections<S: System>(
     system: &S,
     exe: &str,
     objects: &[&[u8]],

@@ -11,62 +11,84 @@ use rv_chain::Fault;
 use rv_debug_sources::{changed_source, unloaded, without_debug_rows};
 use rv_fault::FileFault;
 use rv_job::AskedObject;
+use rv_object_types::Object;
 use rv_object_writer::write;
 use rv_system::{JobError, System, fault_line};
-use std::alloc::Global;
+use std::alloc::{AllocError, Global};
 
-/// The file of the object of a source, with the source's name and what its debug sections refer to.
+/// The file of the object of a source, with what its debug sections refer to and the source's name.
 pub(crate) fn object_for_debuggers<S: System>(
     system: &mut S,
     asked: &AskedObject<'_>,
     text: &[u8],
 ) -> Result<Vec<u8>, JobError> {
+    let file = referring_object(system, asked.source, text, asked.relax, asked.explains)?;
+    named_object(system, asked.source, file.as_slice())
+}
+
+/// The files of the objects of sources that were built, with what their debug sections refer to; none where no source has
+/// debug sections of its own. The names of the sources stand in front of any others.
+pub(crate) fn objects_of_sources<S: System>(
+    system: &mut S,
+    names: &[&str],
+    sources: &[&[u8]],
+) -> Result<Vec<Vec<u8>>, JobError> {
     let alloc: Global = system.alloc();
-    match referring_object(alloc, text, asked.relax) {
-        Ok(Some(file)) => {
-            let named = named_object(system, asked.source, file.as_slice())?;
-            unloaded_object(alloc, asked.source, named.as_slice())
+    let mut files: Vec<Vec<u8>> = Vec::new(alloc);
+    if !is_any_changed(alloc, sources)? {
+        return Ok(files);
+    }
+    for (name, source) in names.iter().zip(sources.iter()) {
+        files.push(referring_object(system, name, source, true, false)?)?;
+    }
+    Ok(files)
+}
+
+/// Whether one of these sources has debug sections of its own.
+fn is_any_changed(alloc: Global, sources: &[&[u8]]) -> Result<bool, AllocError> {
+    for source in sources {
+        if changed_source(alloc, source)?.is_some() {
+            return Ok(true);
         }
-        Ok(None) => plain_object(system, asked, text),
+    }
+    Ok(false)
+}
+
+/// The file of the object of a source of this name, with what its debug sections refer to.
+fn referring_object<S: System>(
+    system: &mut S,
+    name: &str,
+    text: &[u8],
+    relax: bool,
+    explains: bool,
+) -> Result<Vec<u8>, JobError> {
+    let alloc: Global = system.alloc();
+    let Some(changed) = changed_source(alloc, text)? else {
+        return assembled(system, name, text, relax, explains);
+    };
+    match loaded_object(alloc, changed.as_slice(), relax) {
+        Ok(file) => unloaded_object(alloc, name, file.as_slice()),
         Err(SourceFault::OutOfMemory) => Err(JobError::Memory),
         Err(fault) => {
-            let file = plain_object(system, asked, text)?;
-            warn_of_plain(system, asked.source, fault)?;
+            let file = assembled(system, name, text, relax, explains)?;
+            warn_of_plain(system, name, fault)?;
             Ok(file)
         }
     }
 }
 
-/// The file of the object of a source as it is, with its name.
-fn plain_object<S: System>(
-    system: &S,
-    asked: &AskedObject<'_>,
-    text: &[u8],
-) -> Result<Vec<u8>, JobError> {
-    let file = assembled(system, asked.source, text, asked.relax, asked.explains)?;
-    named_object(system, asked.source, file.as_slice())
-}
-
-/// The file of the object of a source, as if its debug sections were loaded; none where it has none of its own.
-fn referring_object(
-    alloc: Global,
-    text: &[u8],
-    relax: bool,
-) -> Result<Option<Vec<u8>>, SourceFault> {
-    let Some(changed) = changed_source(alloc, text)? else {
-        return Ok(None);
-    };
+/// The file of the object of a changed source, whose debug sections are loaded.
+fn loaded_object(alloc: Global, changed: &[u8], relax: bool) -> Result<Vec<u8>, SourceFault> {
     if relax {
-        return loaded_object(alloc, changed.as_slice());
+        return written(alloc, assemble(alloc, changed)?);
     }
-    let changed = without_relaxation(alloc, changed.as_slice())?;
-    loaded_object(alloc, changed.as_slice())
+    let changed = without_relaxation(alloc, changed)?;
+    written(alloc, assemble(alloc, changed.as_slice())?)
 }
 
-/// The file of the object of a changed source.
-fn loaded_object(alloc: Global, changed: &[u8]) -> Result<Option<Vec<u8>>, SourceFault> {
-    let object = assemble(alloc, changed)?;
-    Ok(Some(write(alloc, &without_debug_rows(object))?))
+/// The file of an object without the rows of its debug sections.
+fn written(alloc: Global, object: Object<'_>) -> Result<Vec<u8>, SourceFault> {
+    Ok(write(alloc, &without_debug_rows(object))?)
 }
 
 /// The file of an object whose debug sections are not loaded.

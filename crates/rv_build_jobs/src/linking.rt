@@ -1,8 +1,9 @@
 //! Links objects, and the members of archives that they ask for.
 
 use crate::building::write_outputs;
-use crate::carrying::{addresses_of, has_any_section, map_of_lines, with_sections};
-use crate::debugging::{debugged, file_objects, paths_of_objects, without_marks};
+use crate::carrying::{addresses_of, debugged_with_sections};
+use crate::debug_objects::objects_of_sources;
+use crate::debugging::{file_objects, paths_of_objects, without_marks};
 use crate::defining::Definitions;
 use crate::files::{LinkFile, linked_files};
 use crate::refusing::{Linked, refused_link};
@@ -11,8 +12,8 @@ use crate::settling::settle_files;
 use crate::taking::{bytes_of, names_of, objects_of};
 use rv_chain::{Built, link_objects_exe_on, link_objects_on};
 use rv_job::{AskedLink, LinkOutputs, LinkSettings};
-use rv_system::{JobError, Purpose, System, write};
-use std::alloc::Global;
+use rv_system::{JobError, Purpose, System, borrowed, write};
+use std::alloc::{AllocError, Global};
 
 /// Links files and writes what is asked for of it; the exit status.
 #[inline(never)]
@@ -114,33 +115,48 @@ fn link_with_map<S: System>(
     }
 }
 
-/// What was linked of objects, with names and lines and the debug sections of the objects.
+/// What was linked of objects, with names and lines and the debug sections of the objects; those of sources are made once
+/// more, with what their debug sections refer to.
 fn linked_debugged<S: System>(
-    system: &S,
+    system: &mut S,
     exe: &str,
     settings: LinkSettings,
     linked: Linked<'_>,
     built: Built,
 ) -> Result<Built, JobError> {
     let alloc: Global = system.alloc();
-    let objects = file_objects(alloc, linked.names, linked.objects)?;
-    let addresses = if has_any_section(linked.objects) {
-        addresses_of(alloc, linked.names, objects.as_slice(), settings.options)?
-    } else {
-        Vec::new(alloc)
-    };
-    let paths = paths_of_objects(system, linked.names, linked.objects)?;
-    let lines = map_of_lines(alloc, built.map.as_slice(), linked.objects)?;
-    let built = debugged(
+    let own = objects_of_sources(system, linked.names, linked.sources)?;
+    let files = with_first(alloc, own.as_slice(), linked.objects)?;
+    let objects = file_objects(alloc, linked.names, files.as_slice())?;
+    let addresses = addresses_of(
+        alloc,
+        linked.names,
+        files.as_slice(),
+        objects.as_slice(),
+        settings.options,
+    )?;
+    let paths = paths_of_objects(system, linked.names, files.as_slice())?;
+    let described = without_marks(alloc, objects)?;
+    debugged_with_sections(
         system,
         exe,
         paths.as_slice(),
-        without_marks(alloc, objects)?.as_slice(),
-        lines.as_deref(),
+        described.as_slice(),
+        files.as_slice(),
+        addresses.as_slice(),
         built,
-    )?;
-    if addresses.is_empty() {
-        return Ok(built);
+    )
+}
+
+/// Files, of which others stand in the place of the first ones.
+fn with_first<'f>(
+    alloc: Global,
+    first: &'f [Vec<u8>],
+    files: &[&'f [u8]],
+) -> Result<Vec<&'f [u8]>, AllocError> {
+    let mut all: Vec<&'f [u8]> = borrowed(alloc, first)?;
+    for file in files.iter().skip(first.len()) {
+        all.push(file)?;
     }
-    with_sections(system, exe, linked.objects, addresses.as_slice(), built)
+    Ok(all)
 }
