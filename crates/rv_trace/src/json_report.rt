@@ -197,7 +197,7 @@ fn put_names<M: Memory>(
     let Fetched::Got(inst, _) = spelled(Some(bits)) else {
         return put_no_names(alloc, place);
     };
-    put_base(alloc, place, address, inst)?;
+    put_base(alloc, place, address, &inst)?;
     put_alias(alloc, place, address, bits, inst)
 }
 
@@ -211,10 +211,10 @@ fn put_base(
     alloc: Global,
     place: &mut Map<String, Value>,
     address: u64,
-    inst: Inst,
+    inst: &Inst,
 ) -> Result<(), AllocError> {
     let mut text = Vec::new(alloc);
-    put_instruction(&mut text, Targets::Addresses(address), inst)?;
+    put_instruction(&mut text, Targets::Addresses(address), *inst)?;
     put_members(alloc, place, &[("instruction", Name(text.as_slice()))])
 }
 
