@@ -1,9 +1,9 @@
 //! Why a run ended, and how it went: reports, traces and counts, in words of the program's symbols and lines.
 //!
 //! It takes a machine that [`run_watched`](rv_machine::run_watched) runs, and what is known of the program's addresses
-//! ([`Places`], from its map and its sources), and gives texts: the instructions executed one by one ([`Trace`]), how often
-//! each was (`counts_text`, `lines_text`, `lcov_text`, of the counts of `rv_counts`), and why the run ended ([`Latest`],
-//! `report_text`).
+//! ([`Places`], from its map and its sources, or from an executable's own tables), and gives texts: the instructions
+//! executed one by one ([`Trace`]), how often each was (`counts_text`, `lines_text`, `lcov_text`, of the counts of
+//! `rv_counts`), and why the run ended ([`Latest`], `report_text`).
 //!
 //! Main contract: that of `run_watched`, by which a run that is watched is the run of the machine, and each watcher is told
 //! exactly its events; the counts that are shown are those of `rv_counts`. How the texts show them is tested. It must not know files or the words of a command line.
@@ -32,6 +32,7 @@ mod lines;
 mod members;
 mod memory_lines;
 mod moved;
+mod own_tables;
 mod parts;
 mod pattern;
 mod places;
@@ -50,5 +51,6 @@ pub use lines::{lcov_text, lines_text};
 pub use places::{Places, Source};
 pub use plain::PlainTrace;
 pub use report::{Latest, Segments, report_text};
+pub use rv_debug_reader::DebugTables;
 pub use summary::counts_text;
 pub use trace::Trace;

@@ -1,6 +1,7 @@
 //! How often the lines of sources were executed.
 //!
-//! A statement was executed as often as its first instruction. Statements that were never executed are shown with 0.
+//! A statement was executed as often as its first instruction. Statements that were never executed are shown with 0. Line
+//! tables know no statements: there a line was executed as often as that of its parts that was most.
 
 use crate::columns::put;
 use crate::parts::Part::{Decimal, Text};
@@ -60,9 +61,18 @@ fn put_lines(
             Decimal(never),
             Text(" of "),
             Decimal(covered.len() as u64),
-            Text(" statements\n"),
+            Text(counted(places)),
         ],
     )
+}
+
+/// What is counted, at the end of a line.
+fn counted(places: &Places<'_>) -> &'static str {
+    if places.is_of_lines {
+        " lines\n"
+    } else {
+        " statements\n"
+    }
 }
 
 /// The lines as a tracefile of lcov, which `genhtml` draws. A line with several statements was executed as often as the one
@@ -157,7 +167,8 @@ impl Records {
     }
 }
 
-/// The statements that have instructions by file and number, each with how often it was executed.
+/// The statements that have instructions by file and number, or the lines of line tables, each with how often it was
+/// executed.
 pub(crate) fn coverage(
     alloc: Global,
     counts: &Counts,
@@ -170,6 +181,9 @@ pub(crate) fn coverage(
             let count = by_address.executions(row.address);
             covered.push(Covered { row: *row, count })?;
         }
+    }
+    if places.is_of_lines {
+        return most_of_lines(alloc, covered.as_slice());
     }
     covered.sort_by_key(|statement: &Covered| (statement.row.file, statement.row.ordinal))?;
     Ok(covered)

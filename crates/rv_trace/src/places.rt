@@ -2,7 +2,7 @@
 //!
 //! A map lists both by name and by file; here they are sorted by address once, so that each instruction finds its own by
 //! a binary search. A map has global names alone; those of a file are the labels of its source, each at the address of the
-//! statement after it.
+//! statement after it. An executable without a map has the names and lines of its own tables (`own_tables`).
 
 use crate::parts::{Part, put_parts};
 use rv_fault::{Fault, SourceFault};
@@ -21,17 +21,25 @@ pub struct Source<'a> {
 
 /// A source by its lines.
 #[derive(Drop)]
-struct Lines<'a> {
-    name: &'a str,
-    /// Without their ends.
-    lines: Vec<&'a [u8]>,
+pub(crate) struct Lines<'a> {
+    /// Empty where none can be shown.
+    pub name: Vec<u8>,
+    /// Without their ends; none where the text is not at hand.
+    pub lines: Vec<&'a [u8]>,
+}
+
+/// A region of a map, or a section of an executable.
+#[derive(Clone, Copy, Drop)]
+pub(crate) struct NamedRegion<'a> {
+    pub name: &'a str,
+    pub region: Region,
 }
 
 /// A name and its address.
 #[derive(Clone, Copy, Drop)]
-struct Symbol<'a> {
-    name: &'a [u8],
-    address: u64,
+pub(crate) struct Symbol<'a> {
+    pub name: &'a [u8],
+    pub address: u64,
 }
 
 /// The nearest symbol at or below an address, in its region.
@@ -43,7 +51,7 @@ pub(crate) struct Near<'a> {
 }
 
 /// Whether the linker defines a name for the bound of a region: nothing of the program stands there.
-fn is_bound(name: &[u8]) -> bool {
+pub(crate) fn is_bound(name: &[u8]) -> bool {
     let bounds: [&[u8]; 5] = [
         b"_etext",
         b"__bss_start",
@@ -64,9 +72,6 @@ fn address_of(map: &Map, key: (u64, u64)) -> Option<u64> {
         Err(_) => None,
     }
 }
-
-/// The regions of a program, in the order of its map.
-const REGIONS: [&str; 4] = [".text", ".rodata", ".data", ".bss"];
 
 /// The lines of a text, without their ends.
 fn lines_of<'a>(alloc: Global, text: &'a [u8]) -> Result<Vec<&'a [u8]>, AllocError> {
@@ -89,14 +94,17 @@ fn index_of(number: u64) -> Option<usize> {
 #[derive(Drop)]
 pub struct Places<'a> {
     /// By address; of those of one address the first is shown.
-    symbols: Vec<Symbol<'a>>,
+    pub(crate) symbols: Vec<Symbol<'a>>,
     /// Those that the linker defines.
-    bounds: Vec<Symbol<'a>>,
+    pub(crate) bounds: Vec<Symbol<'a>>,
     /// Those with bytes, by address.
-    rows: Vec<Row>,
-    regions: Vec<Region>,
+    pub(crate) rows: Vec<Row>,
+    /// By address.
+    pub(crate) regions: Vec<NamedRegion<'a>>,
     /// The sources in the order of their files' numbers; none where they are not at hand.
-    sources: Vec<Lines<'a>>,
+    pub(crate) sources: Vec<Lines<'a>>,
+    /// Whether the rows are those of line tables, which know lines and no statements.
+    pub(crate) is_of_lines: bool,
 }
 
 impl<'a> Places<'a> {
@@ -115,13 +123,14 @@ impl<'a> Places<'a> {
     }
 
     /// Nothing yet.
-    fn nothing(alloc: Global) -> Self {
+    pub(crate) fn nothing(alloc: Global) -> Self {
         Places {
             symbols: Vec::new(alloc),
             bounds: Vec::new(alloc),
             rows: Vec::new(alloc),
             regions: Vec::new(alloc),
             sources: Vec::new(alloc),
+            is_of_lines: false,
         }
     }
 
@@ -147,7 +156,7 @@ impl<'a> Places<'a> {
     fn add_sources(&mut self, alloc: Global, sources: &[Source<'a>]) -> Result<(), AllocError> {
         for source in sources {
             self.sources.push(Lines {
-                name: source.name,
+                name: Vec::from_slice(alloc, source.name.as_bytes())?,
                 lines: lines_of(alloc, source.text)?,
             })?;
         }
@@ -155,8 +164,18 @@ impl<'a> Places<'a> {
     }
 
     fn add_regions(&mut self, map: &Map) -> Result<(), AllocError> {
-        self.regions
-            .extend_from_slice(&[map.text, map.rodata, map.data, map.bss])?;
+        self.add_region(".text", map.text)?;
+        self.add_region(".rodata", map.rodata)?;
+        self.add_region(".data", map.data)?;
+        self.add_region(".bss", map.bss)?;
+        self.regions.sort_by_key(|part| part.region.start)
+    }
+
+    /// Adds a region, unless nothing stands there.
+    pub(crate) fn add_region(&mut self, name: &'a str, region: Region) -> Result<(), AllocError> {
+        if region.start < region.end {
+            self.regions.push(NamedRegion { name, region })?;
+        }
         Ok(())
     }
 
@@ -262,27 +281,30 @@ impl<'a> Places<'a> {
         start: u64,
         end: u64,
     ) -> Result<(), AllocError> {
-        for (name, region) in REGIONS.iter().zip(self.regions.iter()) {
-            if start <= region.start && region.start < region.end && region.end <= end {
-                put_parts(text, &[Part::Text(" "), Part::Text(name)])?;
+        for part in &self.regions {
+            if start <= part.region.start && part.region.end <= end {
+                put_parts(text, &[Part::Text(" "), Part::Text(part.name)])?;
             }
         }
         Ok(())
     }
 
     /// The name of the region that has an address.
-    pub(crate) fn region_at(&self, address: u64) -> Option<&'static str> {
+    pub(crate) fn region_at(&self, address: u64) -> Option<&'a str> {
         let (name, _) = self.region_of(address)?;
         Some(name)
     }
 
     /// The name and the first address of the region that has an address.
-    pub(crate) fn region_of(&self, address: u64) -> Option<(&'static str, u64)> {
-        let index = self
+    pub(crate) fn region_of(&self, address: u64) -> Option<(&'a str, u64)> {
+        let behind = self
             .regions
-            .iter()
-            .position(|region| region.start <= address && address < region.end)?;
-        Some((*REGIONS.get(index)?, self.regions.get(index)?.start))
+            .partition_point(|part| part.region.start <= address);
+        let part = self.regions.get(behind.checked_sub(1)?)?;
+        if part.region.end <= address {
+            return None;
+        }
+        Some((part.name, part.region.start))
     }
 
     /// The symbol at the highest address at or below one, of several there the first.
@@ -315,12 +337,9 @@ impl<'a> Places<'a> {
 
     /// The nearest symbol at or below an address, in the address's region.
     pub(crate) fn symbol_at(&self, address: u64) -> Option<Near<'a>> {
-        let region = self
-            .regions
-            .iter()
-            .find(|region| region.start <= address && address < region.end)?;
+        let (_, start) = self.region_of(address)?;
         let symbol = self.last_symbol(address)?;
-        if symbol.address < region.start {
+        if symbol.address < start {
             return None;
         }
         Some(Near {
@@ -364,11 +383,11 @@ impl<'a> Places<'a> {
         self.sources.get(index_of(file)?)
     }
 
-    /// The name of a file by its number, where its source is at hand, else the number.
-    pub(crate) fn file(&self, number: u64) -> Part<'a> {
+    /// The name of a file by its number, where it is known, else the number.
+    pub(crate) fn file(&self, number: u64) -> Part<'_> {
         match self.source(number) {
-            Some(source) => Part::Text(source.name),
-            None => Part::Decimal(number),
+            Some(source) if !source.name.is_empty() => Part::Name(source.name.as_slice()),
+            _ => Part::Decimal(number),
         }
     }
 

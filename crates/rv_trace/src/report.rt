@@ -416,7 +416,7 @@ fn put_in_segment<'a>(
 }
 
 /// The name of the part of a segment that has an address.
-fn name_of(places: &Places<'_>, bounds: &Bounds, address: u64) -> &'static str {
+fn name_of<'a>(places: &Places<'a>, bounds: &Bounds, address: u64) -> &'a str {
     if bounds.start == STACK_START {
         return "the stack";
     }
