@@ -1,7 +1,7 @@
 //! The programs of runs that are looked at, as the words name them.
 //!
 //! Sources are built with their map; an executable has the map that the words name for it, if any, and its sources stand
-//! behind it.
+//! behind it. One without a map is kept whole, for its own tables.
 
 use crate::building::built;
 use crate::refusing::program_image;
@@ -36,7 +36,7 @@ pub fn load_program<S: System>(
         None => map_text(system, asked)?,
     };
     if is_elf(first.as_slice()) && (read.is_empty() || given.is_some()) {
-        return given_program(system, asked, given, first.as_slice(), read);
+        return given_program(system, asked, given, first, read);
     }
     let names = asked.names(alloc)?;
     read.insert(0, first)?;
@@ -49,22 +49,28 @@ fn given_program<S: System>(
     system: &S,
     asked: &Asked<'_>,
     given: Option<Vec<u8>>,
-    exe: &[u8],
+    exe: Vec<u8>,
     sources: Vec<Vec<u8>>,
 ) -> Result<(KnownSource, Image), JobError> {
     let alloc: Global = system.alloc();
     let Some(text) = given else {
-        let image = program_image(system, asked, exe)?;
-        return Ok((KnownSource { map: None, sources }, image));
+        let image = program_image(system, asked, exe.as_slice())?;
+        let program = KnownSource {
+            map: None,
+            sources,
+            exe,
+        };
+        return Ok((program, image));
     };
     let name = asked.map.unwrap_or("-");
     let map = map_in(alloc, name, text.as_slice())?;
-    let image = program_image(system, asked, exe)?;
+    let image = program_image(system, asked, exe.as_slice())?;
     check_fit(alloc, name, &map, asked.file, &image)?;
     check_sources(alloc, asked, &map, sources.as_slice())?;
     let program = KnownSource {
         map: Some(map),
         sources,
+        exe: Vec::new(alloc),
     };
     Ok((program, image))
 }
@@ -83,6 +89,7 @@ fn built_program<S: System>(
     let program = KnownSource {
         map: Some(map),
         sources: read,
+        exe: Vec::new(alloc),
     };
     Ok((program, image))
 }

@@ -1,7 +1,7 @@
 //! Runs that are looked at: reports of why they ended, their last states, traces, and counts.
 //!
 //! Of a program that was built from sources the map and the texts are at hand, so its symbols, files and lines are shown; of
-//! an executable those of the map and of the sources that the words name for it, if any.
+//! an executable those of the map and of the sources that the words name for it, or else those of its own tables.
 
 use crate::stepping::Guest;
 use rv_counts::Counts;
@@ -12,10 +12,10 @@ use rv_job::{Asked, Coverage, LineForm, OutputFormat, Results, Shown};
 use rv_machine::{End, ShowFault, WatchFault, Watched};
 use rv_map::Map;
 use rv_memory::Paged;
-use rv_system::{JobError, Purpose, System, cannot, fault_line, write};
+use rv_system::{JobError, Purpose, ReadFault, System, cannot, fault_line, write};
 use rv_trace::{
-    Ending, Last, Places, PlainTrace, Segments, Source, Trace, counts_json, counts_text, lcov_text,
-    lines_text, report_json, report_text, state_text,
+    DebugTables, Ending, Last, Places, PlainTrace, Segments, Source, Trace, counts_json,
+    counts_text, lcov_text, lines_text, report_json, report_text, state_text,
 };
 use std::alloc::{AllocError, Global};
 use std::io::Write;
@@ -27,15 +27,22 @@ pub struct KnownSource {
     pub map: Option<Map>,
     /// The texts of its sources in their order, where it was built from them or the words name them.
     pub sources: Vec<Vec<u8>>,
+    /// The bytes of its executable, whose tables say what no map does; none where there is a map.
+    pub exe: Vec<u8>,
 }
 
 impl KnownSource {
-    /// What is known of its addresses.
-    fn places<'a, 'w: 'a>(
+    /// What is known of its addresses, in a working directory.
+    fn places<'a, 'w: 'a, 'e: 'a>(
         &'a self,
         alloc: Global,
         asked: &Asked<'w>,
+        tables: &'a DebugTables<'e>,
+        directory: &str,
     ) -> Result<Places<'a>, JobError> {
+        if self.map.is_none() {
+            return Ok(Places::of_tables(alloc, tables, directory.as_bytes())?);
+        }
         let files = asked.names(alloc)?;
         // an executable stands before its sources
         let first = files.len().saturating_sub(self.sources.len());
@@ -54,6 +61,15 @@ impl KnownSource {
     }
 }
 
+/// The working directory; empty where the system does not say it.
+fn directory<S: System>(system: &S) -> Result<String, JobError> {
+    match system.directory() {
+        Ok(directory) => Ok(directory),
+        Err(ReadFault::Failed) => Ok(String::new(system.alloc())),
+        Err(ReadFault::Memory) => Err(JobError::Memory),
+    }
+}
+
 /// Runs a program, and tells how the run ended and what it left, as far as that is asked; the exit status.
 #[inline(never)]
 pub fn run_with_results<S: Guests>(
@@ -63,7 +79,10 @@ pub fn run_with_results<S: Guests>(
     program: KnownSource,
     image: Image,
 ) -> Result<u8, JobError> {
-    let places = program.places(system.alloc(), asked)?;
+    let alloc: Global = system.alloc();
+    let tables = DebugTables::of(alloc, program.exe.as_slice())?;
+    let directory = directory(system)?;
+    let places = program.places(alloc, asked, &tables, directory.as_str())?;
     run_known(system, asked, results, &places, image)
 }
 
@@ -159,7 +178,10 @@ pub fn stats<S: Guests>(
     program: KnownSource,
     image: Image,
 ) -> Result<u8, JobError> {
-    let places = program.places(system.alloc(), asked)?;
+    let alloc: Global = system.alloc();
+    let tables = DebugTables::of(alloc, program.exe.as_slice())?;
+    let directory = directory(system)?;
+    let places = program.places(alloc, asked, &tables, directory.as_str())?;
     count_known(system, asked, coverage, &places, image)
 }
 
@@ -239,7 +261,10 @@ pub fn trace<S: Guests>(
     program: KnownSource,
     image: Image,
 ) -> Result<u8, JobError> {
-    let places = program.places(system.alloc(), asked)?;
+    let alloc: Global = system.alloc();
+    let tables = DebugTables::of(alloc, program.exe.as_slice())?;
+    let directory = directory(system)?;
+    let places = program.places(alloc, asked, &tables, directory.as_str())?;
     trace_known(system, asked, shown, &places, image)
 }
 
