@@ -6,12 +6,13 @@ usage: damaged.py [--all]
 Makes objects, executables and an archive with ./rv. Each front part of a file is refused as truncated, and with any
 one of its bytes set to 0, or to FFh, it is answered: no signal ends rv, and what it says is a fault or an end. So is
 an archive cut off or changed anywhere but in the objects that are its members. Of the zeros up to an executable's
-first page one in 64 is changed, and the file cut there; all of them with --all. An object of 114 KB, whose 2,001
+first page one in 64 is changed, and the file cut there; all of them with --all. Of an executable's tables of names and
+lines any byte is changed, and `rv trace` shows the same instructions. An object of 114 KB, whose 2,001
 global names are ends of one string and have 65 MB written out, is linked within 64 MB. Its names are shown, and the
 96 MB that 500 rows of a map over the same 8,000 instructions list, in no more memory than 20 times the files and 16
 MiB: each text is made here once more, and both are counted and hashed as they come. Standard library alone; the last
-line is 'N passed, M failed', where a file counts once for each of the three, and that link and each of these texts
-once.
+line is 'N passed, M failed', where a file counts once for each of the three, and those tables, that link and each of
+these texts once.
 """
 
 import hashlib
@@ -86,6 +87,7 @@ USES = {
     "object": ["ld", "-o", "out"],
     "executable": ["run", "--limit", "1000"],
     "archive": ["ld", "-o", "out", "--library"],
+    "tables": ["trace"],
 }
 # The last source names what no file defines.
 FILES = [
@@ -135,15 +137,25 @@ def wrong_byte(job):
     return f"{use} with {byte:02x} at {at:x}: status {status}, {message!r}"
 
 
+def wrong_table(job):
+    """What is wrong with a trace of an executable with another byte at one place of its tables, or nothing."""
+    held, at, byte, folder = job
+    status, message = answer("tables", held[:at] + bytes([byte]) + held[at + 1 :], folder)
+    if status == 7 and "ecall" in message:
+        return None
+    return f"tables with {byte:02x} at {at:x}: status {status}, {message!r}"
+
+
 def file_of(source, use):
-    """The object or the executable of a source, or the archive of two."""
+    """The object or the executable of a source, also with tables, or the archive of two."""
     if use == "archive":
         first, second = (file_of(it, "object") for it in source.split("#\n"))
         return archive_of([("first.o", first), ("second_with_a_long_name.o", second)])
     with tempfile.TemporaryDirectory() as folder:
         Path(folder, "a.s").write_text(source)
         word = "as" if use == "object" else "build"
-        subprocess.run([RV, word, "-o", "made", "a.s"], cwd=folder, check=True, timeout=SECONDS)
+        tables = ["-g"] if use == "tables" else []
+        subprocess.run([RV, word, *tables, "-o", "made", "a.s"], cwd=folder, check=True, timeout=SECONDS)
         return Path(folder, "made").read_bytes()
 
 
@@ -268,6 +280,11 @@ def main(words):
                 wrong = [it for it in pool.map(test, jobs, chunksize=16) if it]
                 print("\n".join(wrong[:5]), end="\n" if wrong else "")
                 passed, failed, answers = passed + (not wrong), failed + bool(wrong), answers + len(jobs)
+        held, front = file_of(EXIT7, "tables"), len(file_of(EXIT7, "executable"))
+        jobs = [(held, at, byte, folder) for at in range(front, len(held)) for byte in (0, 0x7F, 0xFF)]
+        wrong = [it for it in pool.map(wrong_table, jobs, chunksize=16) if it]
+        print("\n".join(wrong[:5]), end="\n" if wrong else "")
+        passed, failed, answers = passed + (not wrong), failed + bool(wrong), answers + len(jobs)
     print(f"damaged files: {answers} answers")
     print(f"{passed} passed, {failed} failed")
     return 1 if failed else 0
