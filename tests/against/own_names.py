@@ -89,13 +89,14 @@ def rows_of(folder):
     """The source and line of the decoded rows, by address; none behind a sequence."""
     text = output(folder, f"{GNU}readelf", "--debug-dump=decodedline", "exe")[0]
     found = re.findall(r"^(\S+) +(\d+|-) +(0x[0-9a-f]+|0)\b", text, re.M)
-    rows = {}
+    rows, sequence = {}, {}
     for name, line, at in found:
-        # where a sequence ends another may have begun
-        if line not in ("-", "0"):
-            rows[int(at, 16)] = f"{name}:{line}"
-        else:
-            rows.setdefault(int(at, 16))
+        # the last row of an address has its bytes, and where a sequence ends none has
+        sequence[int(at, 16)] = None if line in ("-", "0") else f"{name}:{line}"
+        if line == "-":
+            # where one ends another may have begun
+            rows.update({it: of for it, of in sequence.items() if of or it not in rows})
+            sequence = {}
     return rows
 
 
