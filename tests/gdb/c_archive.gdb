@@ -35,26 +35,32 @@ struct cell *push(struct cell *top, char first)
 }
 #--- session
 (gdb) break library.c:10
-...
+Breakpoint 1 at 0x1009a: file library.c, line 10.
 (gdb) continue
-...
+
+Breakpoint 1, push (top=0x0, first=97 'a') at library.c:10
+10	    return made;
 (gdb) continue
-...
+
+Breakpoint 1, push (top=0x11010, first=98 'b') at library.c:10
+10	    return made;
 (gdb) backtrace
-...
+#0  push (top=0x11010, first=98 'b') at library.c:10
+#1  0x000000000001002e in main () at prog.c:11
 (gdb) print *made
-...
+$1 = {next = 0x11010, name = "b\000\000"}
 (gdb) print *made->next
-...
+$2 = {next = 0x0, name = "a\000\000"}
 (gdb) print used
-...
-(gdb) up
-...
-(gdb) print top->name
-...
-(gdb) info line start.s:3
-...
+$3 = 2
+(gdb) print (char *) heap - (char *) arena
+$4 = 16
 (gdb) finish
 ...
+Value returned is $5 = (struct cell *) 0x11020
 (gdb) next
-...
+12	    return top->name[0] - top->next->name[0];
+(gdb) print top->next->name
+$6 = "a\000\000"
+(gdb) info line start.s:3
+Line 3 of "start.s" starts at address 0x10004 <_start+4> and ends at 0x10008 <_start+8>.

@@ -275,7 +275,13 @@ pub fn print_map<S: System>(system: &mut S, asked: &AskedMap<'_>) -> Result<u8, 
 pub fn assemble<S: System>(system: &mut S, asked: &AskedObject<'_>) -> Result<u8, JobError> {
     let text = file_bytes(system, asked.source)?;
     let file = if asked.debug {
-        object_for_debuggers(system, asked, text.as_slice())?
+        object_for_debuggers(
+            system,
+            asked.source,
+            text.as_slice(),
+            asked.relax,
+            asked.explains,
+        )?
     } else {
         assembled(
             system,

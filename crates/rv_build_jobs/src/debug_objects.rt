@@ -3,6 +3,9 @@
 //! The language keeps no references of sections that are not loaded. So a source with debug sections is assembled as if they
 //! were, and the object loses that again (`rv_debug_sources`). A fault is always one of the source itself: where it is the
 //! changed source that is refused, debug sections stay without references, and a line says so.
+//!
+//! A build loads what the sources are as they stand. Its changed ones give the addresses of their symbols and debug sections
+//! alone, so what these refer to cannot change the image, nor ask archives for a member.
 
 use crate::building::{assembled, without_relaxation};
 use crate::debugging::named_object;
@@ -10,20 +13,36 @@ use rv_assemble::{SourceFault, assemble};
 use rv_chain::Fault;
 use rv_debug_sources::{changed_source, unloaded, without_debug_rows};
 use rv_fault::FileFault;
-use rv_job::AskedObject;
 use rv_object_types::Object;
 use rv_object_writer::write;
 use rv_system::{JobError, System, fault_line};
 use std::alloc::{AllocError, Global};
 
-/// The file of the object of a source, with what its debug sections refer to and the source's name.
+/// The file of the object of a source of this name, which it has in it, with what its debug sections refer to.
 pub(crate) fn object_for_debuggers<S: System>(
     system: &mut S,
-    asked: &AskedObject<'_>,
+    name: &str,
     text: &[u8],
+    relax: bool,
+    explains: bool,
 ) -> Result<Vec<u8>, JobError> {
-    let file = referring_object(system, asked.source, text, asked.relax, asked.explains)?;
-    named_object(system, asked.source, file.as_slice())
+    let alloc: Global = system.alloc();
+    let Some(changed) = changed_source(alloc, text)? else {
+        return plain_object(system, name, text, relax, explains);
+    };
+    match loaded_object(alloc, changed.as_slice(), relax) {
+        Ok(file) => {
+            // (what writes the name reads no relocations of sections that are not loaded)
+            let named = named_object(system, name, file.as_slice())?;
+            unloaded_object(alloc, name, named.as_slice())
+        }
+        Err(SourceFault::OutOfMemory) => Err(JobError::Memory),
+        Err(fault) => {
+            let file = plain_object(system, name, text, relax, explains)?;
+            warn_of_plain(system, name, fault)?;
+            Ok(file)
+        }
+    }
 }
 
 /// The files of the objects of sources that were built, with what their debug sections refer to; none where no source has
@@ -39,7 +58,7 @@ pub(crate) fn objects_of_sources<S: System>(
         return Ok(files);
     }
     for (name, source) in names.iter().zip(sources.iter()) {
-        files.push(referring_object(system, name, source, true, false)?)?;
+        files.push(object_for_debuggers(system, name, source, true, false)?)?;
     }
     Ok(files)
 }
@@ -54,27 +73,16 @@ fn is_any_changed(alloc: Global, sources: &[&[u8]]) -> Result<bool, AllocError> 
     Ok(false)
 }
 
-/// The file of the object of a source of this name, with what its debug sections refer to.
-fn referring_object<S: System>(
-    system: &mut S,
+/// The file of the object of a source as it is, with its name.
+fn plain_object<S: System>(
+    system: &S,
     name: &str,
     text: &[u8],
     relax: bool,
     explains: bool,
 ) -> Result<Vec<u8>, JobError> {
-    let alloc: Global = system.alloc();
-    let Some(changed) = changed_source(alloc, text)? else {
-        return assembled(system, name, text, relax, explains);
-    };
-    match loaded_object(alloc, changed.as_slice(), relax) {
-        Ok(file) => unloaded_object(alloc, name, file.as_slice()),
-        Err(SourceFault::OutOfMemory) => Err(JobError::Memory),
-        Err(fault) => {
-            let file = assembled(system, name, text, relax, explains)?;
-            warn_of_plain(system, name, fault)?;
-            Ok(file)
-        }
-    }
+    let file = assembled(system, name, text, relax, explains)?;
+    named_object(system, name, file.as_slice())
 }
 
 /// The file of the object of a changed source, whose debug sections are loaded.

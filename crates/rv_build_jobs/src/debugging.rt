@@ -27,10 +27,7 @@ pub(crate) fn debugged<S: System>(
     let alloc: Global = system.alloc();
     let directory = directory(system)?;
     let sources = source_files(alloc, paths)?;
-    let map = match lines {
-        Some(lines) => lines,
-        None => built.map.as_slice(),
-    };
+    let map = lines.unwrap_or(built.map.as_slice());
     match debug_file(
         alloc,
         built.exe.as_slice(),
