@@ -180,9 +180,12 @@ def misbuilt(folder, words):
         call(folder, f"{RV} ld -g -o linked {objects} {behind}")
         plain, built, linked = ((folder / it).read_bytes() for it in ("plain", "built", "linked"))
         came, wanted = sections(built), sections(linked)
-        wrong += [f"{it} ({behind})" for it in sorted({*came, *wanted}) if ".debug_" in it and came.get(it) != wanted.get(it)]
-        wrong += [f"image ({behind})"] * (not is_loaded_as(plain, built))
-        wrong += [f"map ({behind})"] * ((folder / "plain-map").read_bytes() != (folder / "built-map").read_bytes())
+        names = [it for it in sorted({*came, *wanted}) if it.startswith(".debug_") and came.get(it) != wanted.get(it)]
+        if not is_loaded_as(plain, built):
+            names.append("image")
+        if (folder / "plain-map").read_bytes() != (folder / "built-map").read_bytes():
+            names.append("map")
+        wrong += [f"{it} ({behind})" for it in names]
     return wrong
 
 
