@@ -83,7 +83,9 @@ def build_in_gate(rt):
         return [it for it in own if os.path.isfile(f"{crate.folder}/out/{it}")]
 
     rt.Crate.ci = ci
-    rt.Kept.made = lambda kept, crate, tests: built(crate) if crate.is_static and not tests else made(kept, crate, tests)
+    rt.Kept.made = (
+        lambda kept, crate, tests: built(crate) if crate.is_static and not tests else made(kept, crate, tests)
+    )
     rt.Kept.is_whole = lambda kept, crate, tests, files: (
         files == own if crate.is_static and not tests else is_whole(kept, crate, tests, files)
     )

@@ -5,9 +5,9 @@ First `rt ci` (ci.py), with what each crate cost (gate_times.py): every proof fr
 be refused, the tests of the library. Then, over the programs and the library that it built, the cases of tests/, the
 programs in other languages that call the library, and each request for memory refused; and the links of the
 documents, where want of memory is made, that a word of the definitions leads to one thing, what each storey names,
-which lemmas stand twice, and that the list of definitions and the lines on modules are today's. The last lines name each
-script where something failed, with what it wrote of that, say what the proofs took, and sum all up as 'N passed, M
-failed'; the exit status is 0 if nothing failed.
+which lemmas stand twice, and that the list of definitions and the lines on modules are today's. The last lines name
+each script where something failed, with what it wrote of that, say what the proofs took, and sum all up as 'N passed,
+M failed'; the exit status is 0 if nothing failed.
 """
 
 import re

@@ -5,8 +5,9 @@ usage: carried.py
 
 GNU ld puts the sections where rv's map has them, and its objects have lost SHF_MERGE, so that it joins no strings. Each
 debug section that it makes is then the one of rv (System V gABI, "Relocation"; RISC-V ELF psABI, "Relocations"), also
-where code is left out, so that addresses become 0, or 1 in .debug_ranges. In front of GNU's .debug_abbrev stand those of
-rv's own units, which it always has. With relaxation, which GNU does otherwise, readelf reads each function at its address.
+where code is left out, so that addresses become 0, or 1 in .debug_ranges. In front of GNU's .debug_abbrev stand those
+of rv's own units, which it always has. With relaxation, which GNU does otherwise, readelf reads each function at its
+address.
 
 Of the sources that GCC writes, `rv build -g` makes what is loaded without `-g`, and the debug sections that `rv ld -g`
 makes of their objects by `rv as -g`; also where one stands in an archive, and --defsym uses names of the program.
@@ -96,7 +97,9 @@ SECTIONS {
 
 def call(folder, words):
     """Runs a command, which has to succeed."""
-    ran = subprocess.run(words.split(), cwd=folder, stdout=subprocess.PIPE, stderr=subprocess.PIPE, text=True, timeout=120)
+    ran = subprocess.run(
+        words.split(), cwd=folder, stdout=subprocess.PIPE, stderr=subprocess.PIPE, text=True, timeout=120
+    )
     if ran.returncode:
         raise SystemExit(f"{words}: {ran.stderr}")
     return ran.stdout

@@ -523,7 +523,9 @@ def is_told_to_all(person):
         demand(len(with_focus) >= (2 if box else 20), f"only {len(with_focus)} controls are there")
         nameless = [value(it, "role") for it in controls if not value(it, "name")]
         same("without a name", [], nameless)
-        same("without a role", [], [value(it, "name") for it in controls if value(it, "role") in ("generic", "none", "")])
+        same(
+            "without a role", [], [value(it, "name") for it in controls if value(it, "role") in ("generic", "none", "")]
+        )
         person.look("closeBoxes")
         if not box:
             lost = LANDMARKS - {value(it, "role") for it in nodes}

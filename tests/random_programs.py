@@ -1,5 +1,5 @@
-"""Random programs, each of its own seed, for comparisons: three of five end by an exit, one of five does something wrong
-on purpose, in its source or in its run, and one of five is any statements at all.
+"""Random programs, each of its own seed, for comparisons: three of five end by an exit, one of five does something
+wrong on purpose, in its source or in its run, and one of five is any statements at all.
 
 One that ends has only branches forwards, loops that count, and accesses to its own room; in the end it writes all its
 registers and its room to the console, so that a difference anywhere in the run is seen there.
@@ -76,7 +76,9 @@ class Writer:
 
     def __init__(self, seed, words):
         self.any, self.forms, self.labels = random.Random(seed), words["mnemonics"], 0
-        self.named = {form: [name for name, it in self.forms.items() if it == form] for form in set(self.forms.values())}
+        self.named = {
+            form: [name for name, it in self.forms.items() if it == form] for form in set(self.forms.values())
+        }
         self.statements = [name for name, form in self.forms.items() if form and name not in JUMPS]
         self.registers = words["registers"]
 
@@ -124,8 +126,13 @@ class Writer:
         if self.any.random() < 0.7:
             return [*self.pointer("t1"), f"{self.any.choice(amos)} {self.register()}, {self.register()}, (t1)"]
         width, again = self.any.choice("wd"), self.label()
-        return [*self.pointer("t1"), f"{again}: lr.{width} t2, (t1)", f"add t2, t2, {self.register()}",
-                f"sc.{width} t3, t2, (t1)", f"bnez t3, {again}"]
+        return [
+            *self.pointer("t1"),
+            f"{again}: lr.{width} t2, (t1)",
+            f"add t2, t2, {self.register()}",
+            f"sc.{width} t3, t2, (t1)",
+            f"bnez t3, {again}",
+        ]
 
     def branch(self):
         behind = self.label()
@@ -137,15 +144,25 @@ class Writer:
     def loop(self):
         again = self.label()
         inside = [line for _ in range(self.any.randrange(1, 4)) for line in self.piece(self.simple)]
-        return [f"li {OUTER}, {self.any.randrange(1, 30)}", f"{again}:", *inside, *self.inner(),
-                f"addi {OUTER}, {OUTER}, -1", f"bnez {OUTER}, {again}"]
+        return [
+            f"li {OUTER}, {self.any.randrange(1, 30)}",
+            f"{again}:",
+            *inside,
+            *self.inner(),
+            f"addi {OUTER}, {OUTER}, -1",
+            f"bnez {OUTER}, {again}",
+        ]
 
     def inner(self):
         if self.any.random() < 0.7:
             return []
         again = self.label()
-        return [f"li {INNER}, {self.any.randrange(1, 12)}", f"{again}: addi {INNER}, {INNER}, -1", *self.some(3),
-                f"bgtz {INNER}, {again}"]
+        return [
+            f"li {INNER}, {self.any.randrange(1, 12)}",
+            f"{again}: addi {INNER}, {INNER}, -1",
+            *self.some(3),
+            f"bgtz {INNER}, {again}",
+        ]
 
     def call(self):
         return [f"{self.any.choice(['call', 'jal'])} f{self.any.randrange(3)}"]
@@ -156,8 +173,17 @@ class Writer:
         behind = self.label()
         parts = [line for it in ends for line in (f"{it}:", *self.some(2), f"j {behind}")]
         rows = f".section .rodata\n.balign 8\n{behind}t: .dword {', '.join(ends)}\n.text"
-        return [f"andi t0, {self.register()}, 3", "slli t0, t0, 3", f"la t1, {behind}t", "add t0, t0, t1",
-                "ld t0, (t0)", "jr t0", *parts, f"{behind}:", rows]
+        return [
+            f"andi t0, {self.register()}, 3",
+            "slli t0, t0, 3",
+            f"la t1, {behind}t",
+            "add t0, t0, t1",
+            "ld t0, (t0)",
+            "jr t0",
+            *parts,
+            f"{behind}:",
+            rows,
+        ]
 
     def write(self):
         start = self.any.randrange(SIZE // 2)
@@ -178,9 +204,19 @@ class Writer:
         """A function that keeps `ra` and some registers on the stack, and may call the one before it."""
         kept = self.any.sample(FREE[12:], 2)
         into = [f"sd {it}, {8 * place}(sp)" for place, it in enumerate(["ra", *kept])]
-        inside = [*self.some(), *(self.access() if self.any.random() < 0.5 else []), *([f"call f{at - 1}"] if at else [])]
-        return [f"f{at}: addi sp, sp, -32", *into, *inside, *(it.replace("s", "l", 1) for it in into), "addi sp, sp, 32",
-                "ret"]
+        inside = [
+            *self.some(),
+            *(self.access() if self.any.random() < 0.5 else []),
+            *([f"call f{at - 1}"] if at else []),
+        ]
+        return [
+            f"f{at}: addi sp, sp, -32",
+            *into,
+            *inside,
+            *(it.replace("s", "l", 1) for it in into),
+            "addi sp, sp, 32",
+            "ret",
+        ]
 
     def ends(self, crash=()):
         """The lines of a program that ends; what it does wrong, if something, stands anywhere in it."""
@@ -190,8 +226,18 @@ class Writer:
             pieces.insert(self.any.randrange(len(pieces) + 1), [*crash])
         start = [f"la {ROOM}, room", *(f"li {it}, {self.any.choice(NUMBERS)}" for it in self.any.sample(FREE, 10))]
         keep = [f"sd {it}, {8 * at}({ROOM})" for at, it in enumerate(FREE)]
-        end = [*keep, "mv s11, a0", "li a7, 64", "li a0, 1", f"mv a1, {ROOM}", f"li a2, {SIZE}", "ecall", "mv a0, s11",
-               "li a7, 93", "ecall"]
+        end = [
+            *keep,
+            "mv s11, a0",
+            "li a7, 64",
+            "li a0, 1",
+            f"mv a1, {ROOM}",
+            f"li a2, {SIZE}",
+            "ecall",
+            "mv a0, s11",
+            "li a7, 93",
+            "ecall",
+        ]
         functions = [line for at in range(3) for line in self.function(at)]
         data = [".data", ".balign 16", f"room: .zero {SIZE}", ".section .rodata", "table: .dword 1, -2, room, _start"]
         option = [".option norvc"] if self.any.random() < 0.3 else []
@@ -206,7 +252,10 @@ class Writer:
         if word in ("before", "after"):
             return self.any.choice(["r", "w", "rw", "iorw"])
         if word == "n":
-            return str(self.any.randrange(1, 8) * (16 if "16sp" in name or "4spn" in name else 8 if "(" in self.forms[name] else 1))
+            return str(
+                self.any.randrange(1, 8)
+                * (16 if "16sp" in name or "4spn" in name else 8 if "(" in self.forms[name] else 1)
+            )
         if word == "number":
             return str(self.any.randrange(64 if "iw" not in name else 32) if name in SHIFTS else self.short())
         if word == "sp":

@@ -3,8 +3,9 @@
 usage: compare.py boards [COUNT]    (with ./rv and qemu-system-riscv64; 200 random programs, unless COUNT says)
 
 First those of examples/board, then random ones: each stores bytes and wider numbers to the UART, sets and reads its
-registers, writes what it read as hexadecimal digits, copies memory, and ends by the test device. They read no input, and
-leave out bit 0 of the line status, which says on rv that a read would wait for input. The last line is 'N agree, M differ'.
+registers, writes what it read as hexadecimal digits, copies memory, and ends by the test device. They read no input,
+and leave out bit 0 of the line status, which says on rv that a read would wait for input. The last line is 'N agree, M
+differ'.
 """
 
 import random
@@ -46,7 +47,8 @@ def step(draw):
         return f"li a0, {draw.randrange(1 << 31) << 8 | draw.randrange(32, 127)}\n{width} a0, 0(s0)"
     if kind == 1:
         register, mask = draw.choice(list(KEPT.items()))
-        return f"li a0, {draw.randrange(256) & mask}\nsb a0, {register}(s0)\nlbu a0, {register}(s0)\ncall show\nsb zero, 3(s0)"
+        given = f"li a0, {draw.randrange(256) & mask}\nsb a0, {register}(s0)"
+        return f"{given}\nlbu a0, {register}(s0)\ncall show\nsb zero, 3(s0)"
     if kind == 2:
         return "lbu a0, 5(s0)\nandi a0, a0, 0xfe\ncall show"
     if kind == 3:
@@ -56,7 +58,8 @@ def step(draw):
         byte = draw.randrange(32, 127)
         return f"li a0, 0x80\nsb a0, 3(s0)\nli a0, {byte}\nsb a0, 0(s0)\nsb zero, 3(s0)\nsb a0, 0(s0)"
     if kind == 5:
-        return f"li a0, {draw.randrange(1 << 32)}\nsw a0, {8 * draw.randrange(64)}(s2)\nlw a0, {8 * draw.randrange(64)}(s2)\ncall show"
+        stored = f"li a0, {draw.randrange(1 << 32)}\nsw a0, {8 * draw.randrange(64)}(s2)"
+        return f"{stored}\nlw a0, {8 * draw.randrange(64)}(s2)\ncall show"
     if kind == 6:
         # a number that ends nothing
         return f"li a0, {draw.randrange(1 << 16) << 16 | draw.choice([0, 1, 0x3332, 0x5554, 0x6666])}\nsw a0, 0(s1)"
@@ -81,7 +84,8 @@ _start:
 
 
 def outcomes(folder, sources):
-    """What the program of sources writes and its status, on rv and on QEMU; none where it is not built or does not end."""
+    """What the program of sources writes and its status, on rv and on QEMU; none where it is not built or does not
+    end."""
     exe = folder / "exe"
     if not succeeds([RV, "build", "--origin", "0x80000000", "-o", exe, *sources]):
         return None

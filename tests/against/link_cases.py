@@ -260,7 +260,7 @@ a: la a1, word
 .data
 word: .dword a, _start
  .word a - _start
-""",
+"""
         ],
         "0x20000000",
     ),

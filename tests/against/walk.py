@@ -7,8 +7,8 @@ that are not loaded, code without bytes up to 2^63, symbols of each binding at, 
 numbers, rows. The walk takes what a link is from the manual and the standards alone: which calls become short (passes
 over all calls, and where they are few each family of sizes is tried), paddings, addresses, bytes, the map, or the first
 fault. Each list is linked with and without `--no-relax`, and so with `--gc-sections`; the walk's answer must be that of
-`rv ld`, byte by byte. List N of a seed is the same in each run; `--only N` takes it alone. With `--origin` a link begins
-where that option alone lets it: at the edges of the stack, of 2^31, 2^32, 2^63 and 2^64, and at any page.
+`rv ld`, byte by byte. List N of a seed is the same in each run; `--only N` takes it alone. With `--origin` a link
+begins where that option alone lets it: at the edges of the stack, of 2^31, 2^32, 2^63 and 2^64, and at any page.
 
 Each find is one line; its objects are kept in the folder that the last line names. Exit status 1 if there is a find.
 """
