@@ -4,7 +4,7 @@
 //! do, on the way back before it is undone. So it is told by what an instruction asks, before it is done.
 
 use rv_gdb_packets::{Range, Reach};
-use rv_isa::{AtomicOperation, Format, LoadOperation, Reg, StoreOperation};
+use rv_isa::{AtomicOperation, Format, Reg};
 use rv_machine::{Fetched, Watched, bits_at as code_at, spelled};
 use rv_memory::Paged;
 
@@ -28,26 +28,6 @@ const NOTHING: Reach = Reach {
     written: None,
 };
 
-/// The bytes of a load.
-fn load_bytes(operation: LoadOperation) -> u64 {
-    match operation {
-        LoadOperation::Lb | LoadOperation::Lbu => 1,
-        LoadOperation::Lh | LoadOperation::Lhu => 2,
-        LoadOperation::Lw | LoadOperation::Lwu => 4,
-        LoadOperation::Ld => 8,
-    }
-}
-
-/// The bytes of a store.
-fn store_bytes(operation: StoreOperation) -> u64 {
-    match operation {
-        StoreOperation::Sb => 1,
-        StoreOperation::Sh => 2,
-        StoreOperation::Sw => 4,
-        StoreOperation::Sd => 8,
-    }
-}
-
 /// The bytes of an atomic access.
 fn atomic_bytes(is_double: bool) -> u64 {
     if is_double { 8 } else { 4 }
@@ -66,12 +46,12 @@ fn bytes_at(machine: &Watched<Paged>, base: Reg, distance: i32, length: u64) -> 
 fn reach_of(format: Format, machine: &Watched<Paged>, input_left: u64) -> Reach {
     match format {
         Format::Load(operation, x) => Reach {
-            read: Some(bytes_at(machine, x.rs1, x.immediate, load_bytes(operation))),
+            read: Some(bytes_at(machine, x.rs1, x.immediate, operation.width())),
             written: None,
         },
         Format::Store(operation, x) => Reach {
             read: None,
-            written: Some(bytes_at(machine, x.rs1, x.immediate, store_bytes(operation))),
+            written: Some(bytes_at(machine, x.rs1, x.immediate, operation.width())),
         },
         Format::LoadReserved(is_double, x) => Reach {
             read: Some(bytes_at(machine, x.rs1, 0, atomic_bytes(is_double))),

@@ -322,6 +322,22 @@ store_name Sh = codes "sh"
 store_name Sw = codes "sw"
 store_name Sd = codes "sd"
 
+-- the bytes of what they move (section 2.6, and 5.3)
+abbrev pub load_width : LoadOperation → ℕ
+load_width Lb = 1
+load_width Lh = 2
+load_width Lw = 4
+load_width Ld = 8
+load_width Lbu = 1
+load_width Lhu = 2
+load_width Lwu = 4
+
+abbrev pub store_width : StoreOperation → ℕ
+store_width Sb = 1
+store_width Sh = 2
+store_width Sw = 4
+store_width Sd = 8
+
 abbrev pub branch_name : BranchOperation → List ℕ
 branch_name Beq = codes "beq"
 branch_name Bne = codes "bne"

@@ -331,6 +331,18 @@ impl LoadOperation {
             LoadOperation::Lwu => "lwu",
         }
     }
+
+    /// The bytes that it loads (sections 2.6 and 5.3).
+    pub fn width(self) -> u64
+        ensures { result ≡ is.load_width self }
+    {
+        match self {
+            LoadOperation::Lb | LoadOperation::Lbu => 1,
+            LoadOperation::Lh | LoadOperation::Lhu => 2,
+            LoadOperation::Lw | LoadOperation::Lwu => 4,
+            LoadOperation::Ld => 8,
+        }
+    }
 }
 
 impl StoreOperation {
@@ -356,6 +368,18 @@ impl StoreOperation {
             StoreOperation::Sh => "sh",
             StoreOperation::Sw => "sw",
             StoreOperation::Sd => "sd",
+        }
+    }
+
+    /// The bytes that it stores.
+    pub fn width(self) -> u64
+        ensures { result ≡ is.store_width self }
+    {
+        match self {
+            StoreOperation::Sb => 1,
+            StoreOperation::Sh => 2,
+            StoreOperation::Sw => 4,
+            StoreOperation::Sd => 8,
         }
     }
 }

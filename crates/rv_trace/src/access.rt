@@ -6,7 +6,7 @@ ghost use Rattle.std.specs.Prelude.{◌≡◌};
 ghost use Rattle.rv_trace.specs.Shown.{shown_bytes, stores};
 
 use rv_event_laws::Access as Told;
-use rv_isa::{AtomicOperation, Format, Inst, LoadOperation, Reg, StoreOperation};
+use rv_isa::{AtomicOperation, Format, Inst, Reg};
 use rv_machine::Event;
 
 /// What an instruction does with memory.
@@ -54,31 +54,11 @@ impl Access {
     }
 }
 
-/// The bytes of a load.
-fn loaded(operation: LoadOperation) -> u64 {
-    match operation {
-        LoadOperation::Lb | LoadOperation::Lbu => 1,
-        LoadOperation::Lh | LoadOperation::Lhu => 2,
-        LoadOperation::Lw | LoadOperation::Lwu => 4,
-        LoadOperation::Ld => 8,
-    }
-}
-
-/// The bytes of a store.
-fn stored(operation: StoreOperation) -> u64 {
-    match operation {
-        StoreOperation::Sb => 1,
-        StoreOperation::Sh => 2,
-        StoreOperation::Sw => 4,
-        StoreOperation::Sd => 8,
-    }
-}
-
 /// The access of an instruction, where it has one.
 pub(crate) fn access_of(inst: Inst) -> Option<Access> {
     let (kind, bytes) = match inst.format() {
-        Format::Load(operation, _) => (AccessKind::Load, loaded(operation)),
-        Format::Store(operation, _) => (AccessKind::Store, stored(operation)),
+        Format::Load(operation, _) => (AccessKind::Load, operation.width()),
+        Format::Store(operation, _) => (AccessKind::Store, operation.width()),
         Format::LoadReserved(double, _) => (AccessKind::LoadReserved, width(double)),
         Format::Atomic(AtomicOperation::Sc, double, _) => {
             (AccessKind::StoreConditional, width(double))

@@ -3,7 +3,7 @@
 use crate::effect::is_zero;
 use crate::facts::Facts;
 use crate::registers::{Held, Registers};
-use rv_isa::{LoadOperation, Reg, StoreOperation};
+use rv_isa::Reg;
 use rv_statement::{Operation, Plain, Statement, StatementKind};
 use std::alloc::{AllocError, Global};
 
@@ -81,34 +81,16 @@ fn operands_of<'a>(facts: &Facts<'a>, kind: &StatementKind<'a>) -> Option<(u64, 
 
 fn plain_access(plain: Plain) -> Option<(u64, Reg)> {
     match plain {
-        Plain::Load(operation, _, base) => Some((loaded(operation), base)),
-        Plain::Store(operation, _, base) => Some((stored(operation), base)),
+        Plain::Load(operation, _, base) => Some((operation.width(), base)),
+        Plain::Store(operation, _, base) => Some((operation.width(), base)),
         _ => None,
     }
 }
 
 fn access_with(operation: Operation) -> Option<(u64, Reg)> {
     match operation {
-        Operation::Load(operation, _, base) => Some((loaded(operation), base)),
-        Operation::Store(operation, _, base) => Some((stored(operation), base)),
+        Operation::Load(operation, _, base) => Some((operation.width(), base)),
+        Operation::Store(operation, _, base) => Some((operation.width(), base)),
         _ => None,
-    }
-}
-
-fn loaded(operation: LoadOperation) -> u64 {
-    match operation {
-        LoadOperation::Lb | LoadOperation::Lbu => 1,
-        LoadOperation::Lh | LoadOperation::Lhu => 2,
-        LoadOperation::Lw | LoadOperation::Lwu => 4,
-        LoadOperation::Ld => 8,
-    }
-}
-
-fn stored(operation: StoreOperation) -> u64 {
-    match operation {
-        StoreOperation::Sb => 1,
-        StoreOperation::Sh => 2,
-        StoreOperation::Sw => 4,
-        StoreOperation::Sd => 8,
     }
 }
