@@ -8,9 +8,9 @@
 //! to which nothing leads from the entry (`rv_collect`): the passes behind get objects without them. Then the plan is made
 //! (`rv_relax`): which calls may become short (`rv_link_sites`), which do, and what is kept of each padding. No size changes after
 //! that. All later passes ask the plan: whether paddings have room, places (`rv_placement`), values (`rv_link_values`), fields
-//! (`rv_reloc`). The objects are lent: each byte moves once, from its object into the program. [`link_exe`] gives the same program
-//! without the names and the rows of its map, for an executable alone: they cost more than all else. [`link_on`] links on any
-//! [`Ground`]: where the text begins, and where the program ends or before; [`link`] does below the stack.
+//! (`rv_reloc`). The objects are lent: each byte moves once, from its object into the program. [`link_on`] links on any
+//! [`Ground`]: where the text begins, and where the program ends or before; [`link`] does below the stack. [`link_exe_on`] gives
+//! the same program without the names and the rows of its map, for an executable alone: they cost more than all else.
 //!
 //! [`symbol_extents_on`] tells where such a link puts each symbol of each object, and how many bytes are left of it, without making a
 //! byte: for debuggers, who ask for symbols that no map shows.
@@ -48,7 +48,7 @@ pub use ground::{ground_of, usual};
 pub use law::a_missing_entry_comes_first;
 pub use options::{GroundOptions, LinkOptions};
 pub use passes::{MOST_FILES, within_limits};
-pub use programs::{link, link_exe, link_exe_on, link_on};
+pub use programs::{link, link_exe_on, link_on};
 pub use rv_addresses::SymbolExtent;
 pub use rv_fault::LinkFault;
 pub use rv_image::Linked;

@@ -61,25 +61,7 @@ pub fn link_on(
     link_with_map(alloc, objects, options, true)
 }
 
-/// Links objects as `link`, without the names and the rows of the map, which the executable does not need.
-///
-/// # Errors
-///
-/// Those of `link`.
-pub fn link_exe(
-    alloc: Global,
-    objects: &[Object<'_>],
-    options: LinkOptions,
-) -> Result<Linked, LinkFault>
-    ensures links { IfOk result (λ l. IsProgramWithoutMap (map object_of objects.now)
-        (usual options.text_start) options.relax options.gc (linked_of l)) }
-    ensures refuses { IfErr result (HasNoProgram (map object_of objects.now)
-        (usual options.text_start) options.relax options.gc) }
-{
-    link_exe_on(alloc, objects, options.grounded())
-}
-
-/// Links objects as `link_exe`, on any ground.
+/// Links objects as `link_on`, without the names and the rows of the map, which the executable does not need.
 ///
 /// # Errors
 ///

@@ -17,12 +17,10 @@
 //! Source: ISA manual, "Control Transfer Instructions"; GNU as, "RISC-V-Directives".
 #![tactic(auto)]
 
-mod input;
 mod items;
 mod passes;
 mod reach;
 mod sizes;
 
-pub use input::is_input;
 pub use items::Items;
 pub use sizes::Family;
