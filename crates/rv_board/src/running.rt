@@ -11,6 +11,7 @@ ghost use Rattle.rv_isa_laws.specs.Reader.{Reader};
 ghost use Rattle.rv_image.specs.SegmentView.{segment_of};
 ghost use Rattle.rv_image.specs.Views.{image_of};
 ghost use Rattle.rv_machine.specs.Hart.{hart_of};
+ghost use Rattle.rv_memory.specs.HeldPages.{held_pages};
 ghost use Rattle.rv_machine.specs.Streams.{MayFollow, Accords, FailsBy};
 ghost use Rattle.rv_machine.specs.StreamSteps.{input_left, HasRead};
 ghost use Rattle.rv_machine.specs.declared.running.RunFault.TheVariants.{OutOfMemory};
@@ -21,7 +22,7 @@ use crate::answering::{Answer, ask_device};
 use crate::ram::{RAM_START, with_ram};
 use rv_image::Image;
 use rv_machine::{End, GuestIn, GuestOut, Hart, Parts, Registers, RunFault, Watched, run_machine};
-use rv_memory::{Memory, Paged};
+use rv_memory::Paged;
 use std::alloc::Global;
 
 /// A hart at its start.
@@ -36,8 +37,8 @@ fn hart_at_start() -> Hart
 }
 
 /// Runs a machine with the devices of the board, at most `limit` instructions.
-pub(crate) fn run_over<M: Memory, R: GuestIn, W: GuestOut>(
-    machine: &mut Watched<M>,
+pub(crate) fn run_over<R: GuestIn, W: GuestOut>(
+    machine: &mut Watched<Paged>,
     reader: &mut R,
     writer: &mut W,
     limit: u64,
@@ -51,7 +52,7 @@ pub(crate) fn run_over<M: Memory, R: GuestIn, W: GuestOut>(
         × ((r : Reader Spells StandsFor) (rest : List ℕ) →
         MayFollow (machine.new.intake.ended ≡ false) rest →
         Accords result written
-        (run_on virt r limit (hart_of machine.old.hart (read ++ rest) []) (M.mem machine.old.memory))) }
+        (run_on virt r limit (hart_of machine.old.hart (read ++ rest) []) (held_pages machine.old.memory))) }
     ensures failed { FailsBy result (R.in_failed reader.old) (W.out_failed writer.old)
         (R.in_failed reader.new) (W.out_failed writer.new) }
     ensures memory { IsErrOf result OutOfMemory → ⊥ }

@@ -32,7 +32,7 @@ use std::alloc::{AllocError, AllocFailed};
 use thiserror::Error;
 
 /// Why a watcher cannot show what it is told.
-#[derive(Clone, Copy, Debug, PartialEq, Eq, Drop, Error)]
+#[derive(Clone, Copy, Debug, Drop, Error)]
 pub enum ShowFault {
     #[error("cannot write")]
     Unwritten,
@@ -53,7 +53,7 @@ impl<T: Drop> From<AllocFailed<T>> for ShowFault {
 }
 
 /// Why a watched run came to no end.
-#[derive(Clone, Copy, Debug, PartialEq, Eq, Drop, Error)]
+#[derive(Clone, Copy, Debug, Drop, Error)]
 pub enum WatchFault {
     /// A stream of the guest failed.
     #[error("a stream failed")]
@@ -133,24 +133,6 @@ impl<M: Memory> Watched<M> {
                 ended: input_ended,
                 buffer: [0; 4096],
             },
-        }
-    }
-
-    /// What it is made of.
-    pub fn into_parts(self) -> Parts<M>
-        ensures hart { result.hart ≡ self.hart }
-        ensures memory { M.mem result.memory ≡ M.mem self.memory }
-        ensures ended { result.input_ended ≡ self.intake.ended }
-    {
-        let Watched {
-            hart,
-            memory,
-            intake,
-        } = self;
-        Parts {
-            hart,
-            memory,
-            input_ended: intake.ended,
         }
     }
 

@@ -2,6 +2,7 @@ use Rattle.std.proofs.Common.{◌≡◌, ℕ, List, [], ◌++◌, inl, refl, ap,
 use Rattle.std.proofs.KnownBytes.{Keeps-refl, Appends-trans}
 use Rattle.rv_isa_laws.specs.Hart as laws
 use Rattle.rv_isa_laws.specs.Memory.{Mem}
+use Rattle.rv_memory.specs.HeldPages.{held_pages}
 use Rattle.rv_machine.specs.declared.end.End.{End}
 use Rattle.rv_machine.specs.declared.end.End.TheVariants.{Limit}
 use Rattle.rv_machine.specs.declared.running.Ran.{Ran}
@@ -22,7 +23,7 @@ loop-remaining-init g c = record {
     [],
     has_read_none _,
     appends_kept _ _ (Keeps-refl _),
-    λ r. so_far_first r c.args.limit c.args.machine.now.hart (g.M.Memory.mem c.args.machine.now.memory) _,
+    λ r. so_far_first r c.args.limit c.args.machine.now.hart (held_pages c.args.machine.now.memory) _,
   );
   reader = refl;
   writer = refl;
@@ -36,7 +37,7 @@ returns-clause-runs g c =
       far.1,
       far.2,
       far.3,
-      λ r rest may. so_far_last r c.args.limit c.loop-remaining.remaining (λ input. hart_of c.args.machine.now.hart input []) (g.M.Memory.mem c.args.machine.now.memory) c.loop-remaining.machine.hart (g.M.Memory.mem c.loop-remaining.machine.memory) _ far.0 far.1 (far.4 r) none rest may,
+      λ r rest may. so_far_last r c.args.limit c.loop-remaining.remaining (λ input. hart_of c.args.machine.now.hart input []) (held_pages c.args.machine.now.memory) c.loop-remaining.machine.hart (held_pages c.loop-remaining.machine.memory) _ far.0 far.1 (far.4 r) none rest may,
     )
 
 pub returns-in-Err-clause-runs : goal.returns-in-Err-clause-runs
@@ -50,7 +51,7 @@ returns-in-Err-clause-runs g c =
       far.1 ++ more.1,
       has_read_more first before after far.0 more.0 far.2 more.2,
       Appends-trans _ _ _ far.1 more.1 far.3 more.3,
-      λ r rest may. run_failed r c.args.limit c.loop-remaining.remaining (λ input. hart_of c.args.machine.now.hart input []) (g.M.Memory.mem c.args.machine.now.memory) before after c.loop-remaining.machine.hart (g.M.Memory.mem c.loop-remaining.machine.memory) far.0 more.0 far.1 more.1 (far.4 r) more.2
+      λ r rest may. run_failed r c.args.limit c.loop-remaining.remaining (λ input. hart_of c.args.machine.now.hart input []) (held_pages c.args.machine.now.memory) before after c.loop-remaining.machine.hart (held_pages c.loop-remaining.machine.memory) far.0 more.0 far.1 more.1 (far.4 r) more.2
           c.in-Err.fault rest may (more.4 r rest may).0,
     )
 
@@ -60,9 +61,9 @@ returns-in-Err-clause-memory g c = never_from Ran End c.in-Err.fault c.in-Err.en
 pub returns-in-Limit-clause-runs : goal.returns-in-Limit-clause-runs
 returns-in-Limit-clause-runs g c =
     let start : List ℕ → laws.Hart = λ input. hart_of c.args.machine.now.hart input [] in
-    let m0 : Mem = g.M.Memory.mem c.args.machine.now.memory in
-    let m1 : Mem = g.M.Memory.mem c.loop-remaining.machine.memory in
-    let m2 : Mem = g.M.Memory.mem c.run_machine.new.machine.memory in
+    let m0 : Mem = held_pages c.args.machine.now.memory in
+    let m1 : Mem = held_pages c.loop-remaining.machine.memory in
+    let m2 : Mem = held_pages c.run_machine.new.machine.memory in
     let first : Input = input_left c.args.machine.now.intake.ended (g.R.GuestIn.ends c.args.reader.now) (g.R.GuestIn.remaining c.args.reader.now) in
     let before : Input = input_left c.loop-remaining.machine.intake.ended (g.R.GuestIn.ends c.loop-remaining.reader) (g.R.GuestIn.remaining c.loop-remaining.reader) in
     let mid : Input = input_left c.run_machine.new.machine.intake.ended (g.R.GuestIn.ends c.run_machine.new.reader) (g.R.GuestIn.remaining c.run_machine.new.reader) in
@@ -80,15 +81,15 @@ returns-in-Limit-clause-runs g c =
 pub returns-in-Ok-Ended : goal.returns-in-Ok-Ended
 returns-in-Ok-Ended g c =
     let start : List ℕ → laws.Hart = λ input. hart_of c.args.machine.now.hart input [] in
-    let m0 : Mem = g.M.Memory.mem c.args.machine.now.memory in
-    let m1 : Mem = g.M.Memory.mem c.loop-remaining.machine.memory in
-    let m2 : Mem = g.M.Memory.mem c.run_machine.new.machine.memory in
+    let m0 : Mem = held_pages c.args.machine.now.memory in
+    let m1 : Mem = held_pages c.loop-remaining.machine.memory in
+    let m2 : Mem = held_pages c.run_machine.new.machine.memory in
     let first : Input = input_left c.args.machine.now.intake.ended (g.R.GuestIn.ends c.args.reader.now) (g.R.GuestIn.remaining c.args.reader.now) in
     let before : Input = input_left c.loop-remaining.machine.intake.ended (g.R.GuestIn.ends c.loop-remaining.reader) (g.R.GuestIn.remaining c.loop-remaining.reader) in
     let mid : Input = input_left c.run_machine.new.machine.intake.ended (g.R.GuestIn.ends c.run_machine.new.reader) (g.R.GuestIn.remaining c.run_machine.new.reader) in
     let far = c.loop-remaining.invariant.so_far in
     let more = c.in-Ok.ensures.runs in
-    let m3 : Mem = g.M.Memory.mem c.ask_device.new.machine.memory in
+    let m3 : Mem = held_pages c.ask_device.new.machine.memory in
     let after : Input = input_left c.ask_device.new.machine.intake.ended (g.R.GuestIn.ends c.ask_device.new.reader) (g.R.GuestIn.remaining c.ask_device.new.reader) in
     let other : law_end c.in-Ok.ran.«end» ≡ laws.Limit → ⊥ = λ is. c.in_default.not-Limit (limit_only c.in-Ok.ran.«end» is) in
     let last = c.in-Ok-Ended.ensures.answers in
@@ -110,15 +111,15 @@ returns-in-Ok-Ended g c =
 pub returns-in-Ok-Refused : goal.returns-in-Ok-Refused
 returns-in-Ok-Refused g c =
     let start : List ℕ → laws.Hart = λ input. hart_of c.args.machine.now.hart input [] in
-    let m0 : Mem = g.M.Memory.mem c.args.machine.now.memory in
-    let m1 : Mem = g.M.Memory.mem c.loop-remaining.machine.memory in
-    let m2 : Mem = g.M.Memory.mem c.run_machine.new.machine.memory in
+    let m0 : Mem = held_pages c.args.machine.now.memory in
+    let m1 : Mem = held_pages c.loop-remaining.machine.memory in
+    let m2 : Mem = held_pages c.run_machine.new.machine.memory in
     let first : Input = input_left c.args.machine.now.intake.ended (g.R.GuestIn.ends c.args.reader.now) (g.R.GuestIn.remaining c.args.reader.now) in
     let before : Input = input_left c.loop-remaining.machine.intake.ended (g.R.GuestIn.ends c.loop-remaining.reader) (g.R.GuestIn.remaining c.loop-remaining.reader) in
     let mid : Input = input_left c.run_machine.new.machine.intake.ended (g.R.GuestIn.ends c.run_machine.new.reader) (g.R.GuestIn.remaining c.run_machine.new.reader) in
     let far = c.loop-remaining.invariant.so_far in
     let more = c.in-Ok.ensures.runs in
-    let m3 : Mem = g.M.Memory.mem c.ask_device.new.machine.memory in
+    let m3 : Mem = held_pages c.ask_device.new.machine.memory in
     let after : Input = input_left c.ask_device.new.machine.intake.ended (g.R.GuestIn.ends c.ask_device.new.reader) (g.R.GuestIn.remaining c.ask_device.new.reader) in
     let other : law_end c.in-Ok.ran.«end» ≡ laws.Limit → ⊥ = λ is. c.in_default.not-Limit (limit_only c.in-Ok.ran.«end» is) in
     let last = c.in-Ok-Refused.ensures.answers in
@@ -140,15 +141,15 @@ returns-in-Ok-Refused g c =
 pub returns-in-Err-ask_device : goal.returns-in-Err-ask_device
 returns-in-Err-ask_device g c =
     let start : List ℕ → laws.Hart = λ input. hart_of c.args.machine.now.hart input [] in
-    let m0 : Mem = g.M.Memory.mem c.args.machine.now.memory in
-    let m1 : Mem = g.M.Memory.mem c.loop-remaining.machine.memory in
-    let m2 : Mem = g.M.Memory.mem c.run_machine.new.machine.memory in
+    let m0 : Mem = held_pages c.args.machine.now.memory in
+    let m1 : Mem = held_pages c.loop-remaining.machine.memory in
+    let m2 : Mem = held_pages c.run_machine.new.machine.memory in
     let first : Input = input_left c.args.machine.now.intake.ended (g.R.GuestIn.ends c.args.reader.now) (g.R.GuestIn.remaining c.args.reader.now) in
     let before : Input = input_left c.loop-remaining.machine.intake.ended (g.R.GuestIn.ends c.loop-remaining.reader) (g.R.GuestIn.remaining c.loop-remaining.reader) in
     let mid : Input = input_left c.run_machine.new.machine.intake.ended (g.R.GuestIn.ends c.run_machine.new.reader) (g.R.GuestIn.remaining c.run_machine.new.reader) in
     let far = c.loop-remaining.invariant.so_far in
     let more = c.in-Ok.ensures.runs in
-    let m3 : Mem = g.M.Memory.mem c.ask_device.new.machine.memory in
+    let m3 : Mem = held_pages c.ask_device.new.machine.memory in
     let after : Input = input_left c.ask_device.new.machine.intake.ended (g.R.GuestIn.ends c.ask_device.new.reader) (g.R.GuestIn.remaining c.ask_device.new.reader) in
     let other : law_end c.in-Ok.ran.«end» ≡ laws.Limit → ⊥ = λ is. c.in_default.not-Limit (limit_only c.in-Ok.ran.«end» is) in
     let last = c.in-Err-ask_device.ensures.answers in
@@ -170,9 +171,9 @@ returns-in-Err-ask_device g c =
 pub overflow_sub-remaining : goal.overflow_sub-remaining
 overflow_sub-remaining g c =
     let start : List ℕ → laws.Hart = λ input. hart_of c.args.machine.now.hart input [] in
-    let m0 : Mem = g.M.Memory.mem c.args.machine.now.memory in
-    let m1 : Mem = g.M.Memory.mem c.loop-remaining.machine.memory in
-    let m2 : Mem = g.M.Memory.mem c.run_machine.new.machine.memory in
+    let m0 : Mem = held_pages c.args.machine.now.memory in
+    let m1 : Mem = held_pages c.loop-remaining.machine.memory in
+    let m2 : Mem = held_pages c.run_machine.new.machine.memory in
     let first : Input = input_left c.args.machine.now.intake.ended (g.R.GuestIn.ends c.args.reader.now) (g.R.GuestIn.remaining c.args.reader.now) in
     let before : Input = input_left c.loop-remaining.machine.intake.ended (g.R.GuestIn.ends c.loop-remaining.reader) (g.R.GuestIn.remaining c.loop-remaining.reader) in
     let mid : Input = input_left c.run_machine.new.machine.intake.ended (g.R.GuestIn.ends c.run_machine.new.reader) (g.R.GuestIn.remaining c.run_machine.new.reader) in
@@ -185,9 +186,9 @@ overflow_sub-remaining g c =
 pub loop-remaining-smaller : goal.loop-remaining-smaller
 loop-remaining-smaller g c =
     let start : List ℕ → laws.Hart = λ input. hart_of c.args.machine.now.hart input [] in
-    let m0 : Mem = g.M.Memory.mem c.args.machine.now.memory in
-    let m1 : Mem = g.M.Memory.mem c.loop-remaining.machine.memory in
-    let m2 : Mem = g.M.Memory.mem c.run_machine.new.machine.memory in
+    let m0 : Mem = held_pages c.args.machine.now.memory in
+    let m1 : Mem = held_pages c.loop-remaining.machine.memory in
+    let m2 : Mem = held_pages c.run_machine.new.machine.memory in
     let first : Input = input_left c.args.machine.now.intake.ended (g.R.GuestIn.ends c.args.reader.now) (g.R.GuestIn.remaining c.args.reader.now) in
     let before : Input = input_left c.loop-remaining.machine.intake.ended (g.R.GuestIn.ends c.loop-remaining.reader) (g.R.GuestIn.remaining c.loop-remaining.reader) in
     let mid : Input = input_left c.run_machine.new.machine.intake.ended (g.R.GuestIn.ends c.run_machine.new.reader) (g.R.GuestIn.remaining c.run_machine.new.reader) in
@@ -203,15 +204,15 @@ loop-remaining-smaller g c =
 pub loop-remaining-preserved : goal.loop-remaining-preserved
 loop-remaining-preserved g c =
     let start : List ℕ → laws.Hart = λ input. hart_of c.args.machine.now.hart input [] in
-    let m0 : Mem = g.M.Memory.mem c.args.machine.now.memory in
-    let m1 : Mem = g.M.Memory.mem c.loop-remaining.machine.memory in
-    let m2 : Mem = g.M.Memory.mem c.run_machine.new.machine.memory in
+    let m0 : Mem = held_pages c.args.machine.now.memory in
+    let m1 : Mem = held_pages c.loop-remaining.machine.memory in
+    let m2 : Mem = held_pages c.run_machine.new.machine.memory in
     let first : Input = input_left c.args.machine.now.intake.ended (g.R.GuestIn.ends c.args.reader.now) (g.R.GuestIn.remaining c.args.reader.now) in
     let before : Input = input_left c.loop-remaining.machine.intake.ended (g.R.GuestIn.ends c.loop-remaining.reader) (g.R.GuestIn.remaining c.loop-remaining.reader) in
     let mid : Input = input_left c.run_machine.new.machine.intake.ended (g.R.GuestIn.ends c.run_machine.new.reader) (g.R.GuestIn.remaining c.run_machine.new.reader) in
     let far = c.loop-remaining.invariant.so_far in
     let more = c.in-Ok.ensures.runs in
-    let m3 : Mem = g.M.Memory.mem c.ask_device.new.machine.memory in
+    let m3 : Mem = held_pages c.ask_device.new.machine.memory in
     let after : Input = input_left c.ask_device.new.machine.intake.ended (g.R.GuestIn.ends c.ask_device.new.reader) (g.R.GuestIn.remaining c.ask_device.new.reader) in
     let other : law_end c.in-Ok.ran.«end» ≡ laws.Limit → ⊥ = λ is. c.in_default.not-Limit (limit_only c.in-Ok.ran.«end» is) in
     let last = c.in-Ok-Went.ensures.answers in

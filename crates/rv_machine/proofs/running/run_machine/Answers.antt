@@ -3,6 +3,7 @@ use Rattle.rv_isa_laws.specs.Memory.{Mem}
 use Rattle.rv_isa_laws.specs.Hart as laws
 use Rattle.rv_isa_laws.specs.Run.{run}
 use Rattle.rv_machine.specs.End.{law_end}
+use Rattle.rv_memory.specs.HeldPages.{held_pages}
 use Rattle.rv_machine.specs.Hart.{hart_of}
 use Rattle.rv_machine.specs.LastState.{last_state}
 use Rattle.rv_machine.specs.StreamSteps.{Input, input_left}
@@ -29,9 +30,9 @@ returns-in-Ok-Some-clause-runs g c =
     let first : Input = input_left c.args.machine.now.intake.ended (g.R.GuestIn.ends c.args.reader.now) (g.R.GuestIn.remaining c.args.reader.now) in
     let before : Input = input_left c.loop-remaining.machine.intake.ended (g.R.GuestIn.ends c.loop-remaining.reader) (g.R.GuestIn.remaining c.loop-remaining.reader) in
     let after : Input = input_left c.step.new.intake.ended (g.R.GuestIn.ends c.step.new.reader) (g.R.GuestIn.remaining c.step.new.reader) in
-    let m0 : Mem = g.M.Memory.mem c.args.machine.now.memory in
-    let m : Mem = g.M.Memory.mem c.loop-remaining.machine.memory in
-    let m' : Mem = g.M.Memory.mem c.step.new.memory in
+    let m0 : Mem = held_pages c.args.machine.now.memory in
+    let m : Mem = held_pages c.loop-remaining.machine.memory in
+    let m' : Mem = held_pages c.step.new.memory in
     let far = c.loop-remaining.invariant.so_far in
     let more = c.in-Ok-Some.ensures.steps in (
       far.0 ++ more.0,
@@ -65,8 +66,8 @@ returns-in-Err-clause-runs g c =
       has_read_more first before after far.0 more.0 far.2 more.2,
       Appends-trans _ _ _ far.1 more.1 far.3 more.3,
       λ r rest may. (
-        stopped r c.args.limit c.loop-remaining.remaining start (g.M.Memory.mem c.args.machine.now.memory) before after c.loop-remaining.machine.hart (g.M.Memory.mem c.loop-remaining.machine.memory) far.0 more.0 far.1 more.1 more.2 (far.4 r).0
-            c.in-Err.fault (c.loop-remaining.remaining - 1) c.step.new.hart (g.M.Memory.mem c.step.new.memory) is (more.4 r) rest may,
+        stopped r c.args.limit c.loop-remaining.remaining start (held_pages c.args.machine.now.memory) before after c.loop-remaining.machine.hart (held_pages c.loop-remaining.machine.memory) far.0 more.0 far.1 more.1 more.2 (far.4 r).0
+            c.in-Err.fault (c.loop-remaining.remaining - 1) c.step.new.hart (held_pages c.step.new.memory) is (more.4 r) rest may,
         tt,
       ),
     )
@@ -78,9 +79,9 @@ loop-remaining-preserved g c =
     let first : Input = input_left c.args.machine.now.intake.ended (g.R.GuestIn.ends c.args.reader.now) (g.R.GuestIn.remaining c.args.reader.now) in
     let before : Input = input_left c.loop-remaining.machine.intake.ended (g.R.GuestIn.ends c.loop-remaining.reader) (g.R.GuestIn.remaining c.loop-remaining.reader) in
     let after : Input = input_left c.step.new.intake.ended (g.R.GuestIn.ends c.step.new.reader) (g.R.GuestIn.remaining c.step.new.reader) in
-    let m0 : Mem = g.M.Memory.mem c.args.machine.now.memory in
-    let m : Mem = g.M.Memory.mem c.loop-remaining.machine.memory in
-    let m' : Mem = g.M.Memory.mem c.step.new.memory in
+    let m0 : Mem = held_pages c.args.machine.now.memory in
+    let m : Mem = held_pages c.loop-remaining.machine.memory in
+    let m' : Mem = held_pages c.step.new.memory in
     let far = c.loop-remaining.invariant.so_far in
     let more = c.in-Ok-None.ensures.steps in
     record {
@@ -116,8 +117,8 @@ returns-clause-runs g c =
     let start : List ℕ → laws.Hart = λ input. hart_of c.args.machine.now.hart input [] in
     let far = c.loop-remaining.invariant.so_far in
     let now : List ℕ → laws.Hart = λ rest. hart_of c.loop-remaining.machine.hart rest far.1 in
-    let m0 : Mem = g.M.Memory.mem c.args.machine.now.memory in
-    let m : Mem = g.M.Memory.mem c.loop-remaining.machine.memory in (
+    let m0 : Mem = held_pages c.args.machine.now.memory in
+    let m : Mem = held_pages c.loop-remaining.machine.memory in (
       far.0,
       far.1,
       far.2,
