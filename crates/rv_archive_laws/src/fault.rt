@@ -4,7 +4,7 @@ use thiserror::Error;
 
 /// Why a file is no archive that can be linked. The faults are looked for in the order of the parts of a file, and the
 /// first is answered.
-#[derive(Clone, Copy, Debug, PartialEq, Eq, Drop, Error)]
+#[derive(Clone, Copy, Debug, Drop, Error)]
 pub enum ArchiveFault {
     /// The file ends before a member's head or contents do.
     #[error("the file ends before a member's head or contents do")]

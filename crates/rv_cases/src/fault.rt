@@ -4,7 +4,7 @@ use std::alloc::{AllocError, AllocFailed};
 use thiserror::Error;
 
 /// What is wrong with a line of a head, or with all that is said of a case.
-#[derive(Debug, PartialEq, Eq, Drop, Error)]
+#[derive(Debug, Drop, Error)]
 pub enum CaseFault {
     #[error("{0} is no key of a case; the keys are exit, end, console, fault, input, limit and instructions")]
     UnknownKey(String),

@@ -7,7 +7,7 @@ ghost use Rattle.rv_debug.specs.NameViews.{plain_source};
 use std::alloc::{AllocError, Global};
 
 /// The directory in which a source was assembled, and the path by which it was named there.
-#[derive(PartialEq, Eq, Drop)]
+#[derive(Drop)]
 pub struct SourceName {
     pub directory: Vec<u8>,
     pub path: Vec<u8>,

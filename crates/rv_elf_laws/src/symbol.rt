@@ -1,7 +1,7 @@
 //! Symbols.
 
 /// A symbol: a name for a place or a number (gABI, "Symbol Table").
-#[derive(Clone, Copy, PartialEq, Eq, Drop)]
+#[derive(Clone, Copy, Drop)]
 pub struct Symbol {
     /// The offset of its name in the section of names, in bytes; 0 where it has none.
     pub st_name: u32,

@@ -5,7 +5,7 @@ use rv_machine::End;
 use std::alloc::AllocError;
 
 /// Why a program stands.
-#[derive(Clone, Copy, PartialEq, Eq, Drop)]
+#[derive(Clone, Copy, Drop)]
 pub enum Stop {
     /// It was asked to go no further.
     Done,
@@ -22,7 +22,7 @@ pub enum Stop {
 }
 
 /// The number of a signal (GDB's own numbers, `include/gdb/signals.def`).
-#[derive(Clone, Copy, PartialEq, Eq, Drop)]
+#[derive(Clone, Copy, Drop)]
 enum Signal {
     Interrupt = 2,
     Illegal = 4,

@@ -23,7 +23,7 @@ use crate::digits::{digit_of, glyph_of};
 use std::alloc::{AllocError, Global};
 
 /// A number that stands in a packet.
-#[derive(Clone, Copy, PartialEq, Eq, Drop)]
+#[derive(Clone, Copy, Drop)]
 pub struct Number {
     pub value: u64,
     /// The index of the byte behind its last digit.

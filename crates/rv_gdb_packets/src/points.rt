@@ -35,7 +35,7 @@ pub struct Point {
 }
 
 /// A point that was met: its kind, and where.
-#[derive(Clone, Copy, PartialEq, Eq, Drop)]
+#[derive(Clone, Copy, Drop)]
 pub struct Met {
     pub kind: PointKind,
     pub address: u64,

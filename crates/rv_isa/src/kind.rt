@@ -9,7 +9,7 @@ ghost use Rattle.rv_isa.specs.Kinds.{number_of, width_of};
 /// What a relocation changes, and by which value: the psABI's name without `R_RISCV_`.
 ///
 /// S is the symbol's value, A the addend, P the place's address.
-#[derive(Clone, Copy, Debug, PartialEq, Eq, Drop)]
+#[derive(Clone, Copy, PartialEq, Eq, Drop)]
 pub enum Kind {
     /// Changes nothing.
     None,

@@ -6,7 +6,7 @@ ghost use Rattle.rv_isa.specs.RegisterNames.{abi_names};
 use std::marker::Model;
 
 /// An integer register, x0 to x31; clauses see its number.
-#[derive(Clone, Copy, Debug, PartialEq, Eq, Drop)]
+#[derive(Clone, Copy, PartialEq, Eq, Drop)]
 pub struct Reg(u8);
 
 impl Model for Reg {

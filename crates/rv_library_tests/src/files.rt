@@ -34,16 +34,16 @@ there: .byte 1
 inside: .word 2
 ";
 
-/// Whether an object is read from a file as it is assembled from a source.
-fn is_object_of<'a>(alloc: Global, file: &'a [u8], source: &'a [u8]) -> Result<bool, Fail> {
-    let object: Object<'a> = read(alloc, file)?;
-    Ok(object == assemble(alloc, source)?)
+/// Whether what is read from a file of an object is written as that file.
+fn is_kept(alloc: Global, file: &[u8]) -> Result<bool, Fail> {
+    let object: Object<'_> = read(alloc, file)?;
+    Ok(write(alloc, &object)?.as_slice() == file)
 }
 
 /// Whether the object of a source is read as it is written, and is no executable.
 fn comes_back(alloc: Global, source: &[u8]) -> Result<bool, Fail> {
     let file = write(alloc, &assemble(alloc, source)?)?;
-    Ok(is_object_of(alloc, &file, source)? && load(alloc, &file) == Err(FileFault::NotExecutable))
+    Ok(is_kept(alloc, &file)? && load(alloc, &file) == Err(FileFault::NotExecutable))
 }
 
 #[test]
@@ -117,7 +117,9 @@ fn maps(rt: HostRuntime) -> Result<(), Fail> {
     let text = built(alloc)?.map;
     let map = rv_map::read(alloc, &text)?.ok_or("it is a map")?;
     assert!(rt; knows_rows(&map));
-    assert!(rt; rv_map::write(alloc, &map)? == text && reread(alloc, &map)? == Some(map));
+    assert!(rt; rv_map::write(alloc, &map)? == text);
+    let again = reread(alloc, &map)?.ok_or("it is a map again")?;
+    assert!(rt; rv_map::write(alloc, &again)? == text);
     assert!(rt; rv_map::read(alloc, b"")?.is_none());
     Ok(())
 }

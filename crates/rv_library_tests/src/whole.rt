@@ -50,7 +50,7 @@ fn from_two_sources_to_a_run(rt: HostRuntime) -> Result<(), Fail> {
     // any executable can be loaded, and with a map be listed
     let image = load(alloc, &executable)?;
     let map = read(alloc, &map_text)?.ok_or("it is a map")?;
-    assert!(rt; map == linked.map && reload(alloc, &linked)? == image);
+    assert!(rt; write(alloc, &map)? == map_text && reload(alloc, &linked)? == image);
     let lines = listing(alloc, &image, &map)?;
     assert!(rt; lines.starts_with(b"@ 1 2 3\n10000: addi a0,zero,0\n"));
     // and it runs, with an input and a limit of instructions

@@ -1,7 +1,7 @@
 //! Where a link may put a program.
 
 /// The memory that a program may have.
-#[derive(Clone, Copy, PartialEq, Eq, Drop)]
+#[derive(Clone, Copy, Drop)]
 pub struct Ground {
     /// Where its text begins.
     pub text: u64,

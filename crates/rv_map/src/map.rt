@@ -6,7 +6,7 @@ ghost use Rattle.rv_map_laws.specs.Name.{is_name};
 use rv_map_laws::{Region, Row, SectionId};
 
 /// A global name and its address.
-#[derive(PartialEq, Eq, Drop)]
+#[derive(Drop)]
 pub struct Global {
     /// The bytes of the name.
     pub name: Vec<u8>,
@@ -17,7 +17,7 @@ pub struct Global {
 }
 
 /// The map of an executable.
-#[derive(PartialEq, Eq, Drop)]
+#[derive(Drop)]
 pub struct Map {
     /// The instructions.
     pub text: Region,

@@ -1,7 +1,7 @@
 //! The parts of a map that are plain numbers.
 
 /// The addresses from `start` on and below `end`.
-#[derive(Clone, Copy, PartialEq, Eq, Drop)]
+#[derive(Clone, Copy, Drop)]
 pub struct Region {
     /// The address of its first byte.
     pub start: u64,
@@ -10,7 +10,7 @@ pub struct Region {
 }
 
 /// A section of a file.
-#[derive(Clone, Copy, PartialEq, Eq, Drop)]
+#[derive(Clone, Copy, Drop)]
 pub struct SectionId {
     /// Its file, from 1.
     pub file: u64,
@@ -19,7 +19,7 @@ pub struct SectionId {
 }
 
 /// Where a statement stands, and what it became there.
-#[derive(Clone, Copy, PartialEq, Eq, Drop)]
+#[derive(Clone, Copy, Drop)]
 pub struct Row {
     /// Its file, from 1.
     pub file: u64,

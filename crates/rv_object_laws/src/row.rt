@@ -1,7 +1,7 @@
 //! Rows of an object.
 
 /// Where a statement of the source stands, as the section `.rv.rows` keeps it.
-#[derive(Clone, Copy, PartialEq, Eq, Drop)]
+#[derive(Clone, Copy, Drop)]
 pub struct Row {
     /// Its line in the source, from 1.
     pub line: u32,

@@ -1,7 +1,7 @@
 //! What a symbol is, and who may name it.
 
 /// Who may name a symbol (gABI, "Symbol Table", st_info).
-#[derive(Clone, Copy, PartialEq, Eq, Drop)]
+#[derive(Clone, Copy, Drop)]
 pub enum Binding {
     /// Its own object alone.
     Local,
@@ -12,7 +12,7 @@ pub enum Binding {
 }
 
 /// What a symbol is (gABI, "Symbol Table", st_shndx and st_value).
-#[derive(Clone, Copy, PartialEq, Eq, Drop)]
+#[derive(Clone, Copy, Drop)]
 pub enum Definition {
     /// Another object's (SHN_UNDEF).
     Undefined,

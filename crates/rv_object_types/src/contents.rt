@@ -9,7 +9,7 @@ ghost use Rattle.rv_object_types.specs.Parts.{contents_of};
 use std::borrow::CowSlice;
 
 /// What a section has in the file (gABI, "Sections", sh_type).
-#[derive(PartialEq, Eq, Drop)]
+#[derive(Drop)]
 pub enum Contents<'a> {
     /// Bytes of the program (SHT_PROGBITS).
     Progbits(CowSlice<'a, u8>),

@@ -10,7 +10,7 @@ use crate::symbol::Symbol;
 use rv_object_laws::Row;
 
 /// What the assembler makes of one source, and what the linker takes. It lends names and bytes from the source or the file.
-#[derive(PartialEq, Eq, Drop)]
+#[derive(Drop)]
 pub struct Object<'a> {
     /// Its sections, in the order of the source.
     pub sections: Vec<Section<'a>>,

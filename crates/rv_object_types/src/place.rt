@@ -4,19 +4,19 @@
 //! and symbols have 32 bits. The definitions count files from 1, as a map does (`specs/Places`).
 
 /// The index of a file among those that are linked, from 0.
-#[derive(Clone, Copy, Debug, PartialEq, Eq, PartialOrd, Ord, Drop)]
+#[derive(Clone, Copy, PartialEq, Eq, PartialOrd, Ord, Drop)]
 pub struct FileIndex(pub usize);
 
 /// The index of a section among those of its object, from 0.
-#[derive(Clone, Copy, Debug, PartialEq, Eq, PartialOrd, Ord, Drop)]
+#[derive(Clone, Copy, PartialEq, Eq, PartialOrd, Ord, Drop)]
 pub struct SectionIndex(pub usize);
 
 /// The index of a symbol among those of its object, from 0.
-#[derive(Clone, Copy, Debug, PartialEq, Eq, PartialOrd, Ord, Drop)]
+#[derive(Clone, Copy, PartialEq, Eq, Drop)]
 pub struct SymbolIndex(pub usize);
 
 /// A place: a section of a file, and an offset there. Places are in the order of their files, sections and offsets.
-#[derive(Clone, Copy, Debug, PartialEq, Eq, PartialOrd, Ord, Drop)]
+#[derive(Clone, Copy, PartialEq, Eq, PartialOrd, Ord, Drop)]
 pub struct Place {
     pub file: FileIndex,
     pub section: SectionIndex,

@@ -6,7 +6,7 @@ ghost use Rattle.rv_link_laws.specs.CallSites.{is_call};
 use rv_isa::Kind;
 
 /// A field that the linker fills in (gABI, "Relocation"; psABI, "Relocations").
-#[derive(Clone, Copy, PartialEq, Eq, Drop)]
+#[derive(Clone, Copy, Drop)]
 pub struct Relocation {
     /// The offset of the field's first byte in its section: the psABI's P.
     pub place: u64,

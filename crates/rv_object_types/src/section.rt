@@ -9,7 +9,7 @@ use crate::contents::Contents;
 use crate::relocation::Relocation;
 
 /// A section (gABI, "Sections").
-#[derive(PartialEq, Eq, Drop)]
+#[derive(Drop)]
 pub struct Section<'a> {
     /// The bytes of its name.
     pub name: &'a [u8],

@@ -6,7 +6,7 @@ ghost use Rattle.rv_object_laws.specs.Valid.{is_shown, has_64_bits};
 use rv_object_laws::{Binding, Definition};
 
 /// A name of an object, or a place without a name (gABI, "Symbol Table").
-#[derive(PartialEq, Eq, Drop)]
+#[derive(Drop)]
 pub struct Symbol<'a> {
     /// The bytes of its name; none where it has no name.
     pub name: &'a [u8],

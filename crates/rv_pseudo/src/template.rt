@@ -44,7 +44,7 @@ pub struct Manner {
 }
 
 /// An instruction of a statement.
-#[derive(Clone, Copy, PartialEq, Eq, Drop)]
+#[derive(Clone, Copy, Drop)]
 pub struct Template {
     pub inst: Inst,
     /// The relocation of an operand that is still open, whose field in `inst` is 0. That of a call stands at its first

@@ -16,7 +16,7 @@ pub enum Standard {
 }
 
 /// Which files can mean a name (gABI, "Symbol Table", st_info).
-#[derive(Clone, Copy, PartialEq, Eq, Drop)]
+#[derive(Clone, Copy, Drop)]
 pub enum Binding {
     /// `.local`, or nothing: the name is its file's own.
     Local,

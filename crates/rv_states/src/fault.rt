@@ -5,7 +5,7 @@ use std::alloc::AllocError;
 use thiserror::Error;
 
 /// Why a run cannot go on; where it stands is not known from then on.
-#[derive(Clone, Copy, Debug, PartialEq, Eq, Drop, Error)]
+#[derive(Clone, Copy, Debug, Drop, Error)]
 pub enum ReplayFault {
     /// The input, or what the guest writes, was lost.
     #[error("a stream failed")]

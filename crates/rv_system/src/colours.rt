@@ -4,7 +4,7 @@ ghost use Rattle.std.specs.Prelude.{[]};
 ghost use Rattle.rv_system.specs.Painting.{IsPainting};
 
 /// What a word of a listing is.
-#[derive(Clone, Copy, PartialEq, Eq, Drop)]
+#[derive(Clone, Copy, Drop)]
 pub(crate) enum Kind {
     /// Blanks, commas, comments, texts in quotes and other words.
     Plain,

@@ -14,7 +14,7 @@ use rv_statement_laws::Standard;
 use rv_unit_laws::SectionType;
 
 /// A section with its flags.
-#[derive(Clone, Copy, PartialEq, Eq, Drop)]
+#[derive(Clone, Copy, Drop)]
 pub struct Section<'a> {
     pub name: &'a [u8],
     /// It has memory in the program: the flag `a`.

@@ -10,7 +10,7 @@ pub struct SectionOffset {
 }
 
 /// The definition of a symbol in this source.
-#[derive(Clone, Copy, PartialEq, Eq, Drop)]
+#[derive(Clone, Copy, Drop)]
 pub struct Definition {
     /// The ordinal of the statement, from 1.
     pub ordinal: u32,

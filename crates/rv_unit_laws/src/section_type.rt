@@ -1,7 +1,7 @@
 //! What a section holds.
 
 /// The type of a section (gABI, "Sections", `sh_type`).
-#[derive(Clone, Copy, PartialEq, Eq, Drop)]
+#[derive(Clone, Copy, Drop)]
 pub enum SectionType {
     /// Bytes of the program.
     Progbits,
