@@ -12,6 +12,7 @@ ghost use Rattle.rv_isa_laws.specs.Hart.{start};
 ghost use Rattle.rv_isa_laws.specs.Reader.{Reader};
 ghost use Rattle.rv_isa_laws.specs.Run.{fetch};
 ghost use Rattle.rv_machine.specs.Fetch.{fetched_of, code_at};
+ghost use Rattle.rv_memory.specs.HeldPages.{held_pages};
 ghost use Rattle.rv_machine.specs.Hart.{hart_of};
 ghost use Rattle.rv_machine.specs.Registers.{register_value};
 ghost use Rattle.rv_machine.specs.Streams.{MayFollow};
@@ -27,7 +28,7 @@ use crate::running::{Intake, RunFault};
 use crate::streams::{GuestIn, GuestOut};
 use crate::telling::step_told;
 use rv_isa::Reg;
-use rv_memory::Memory;
+use rv_memory::{Memory, Paged};
 use std::alloc::{AllocError, AllocFailed};
 use thiserror::Error;
 
@@ -177,9 +178,10 @@ impl<M: Memory> Watched<M> {
     }
 }
 
-/// Runs a machine, at most `limit` instructions, and tells a watcher the event of each step.
-pub fn run_watched<M: Memory, R: GuestIn, W: GuestOut, T: Watcher<M>>(
-    machine: &mut Watched<M>,
+/// Runs a machine, at most `limit` instructions, and tells a watcher the event of each step. Its memory is one of pages, as
+/// that of `run_machine` is.
+pub fn run_watched<R: GuestIn, W: GuestOut, T: Watcher<Paged>>(
+    machine: &mut Watched<Paged>,
     reader: &mut R,
     writer: &mut W,
     watcher: &mut T,
@@ -198,8 +200,8 @@ pub fn run_watched<M: Memory, R: GuestIn, W: GuestOut, T: Watcher<M>>(
         ((past : List Event) → T.has_seen watcher.old past → T.has_seen watcher.new (past ++ told))
         × ((r : Reader Spells StandsFor) (rest : List ℕ) →
         MayFollow (machine.new.intake.ended ≡ false) rest →
-        Shows result written told (hart_of machine.new.hart rest written, M.mem machine.new.memory)
-        r limit (hart_of machine.old.hart (read ++ rest) []) (M.mem machine.old.memory)) }
+        Shows result written told (hart_of machine.new.hart rest written, held_pages machine.new.memory)
+        r limit (hart_of machine.old.hart (read ++ rest) []) (held_pages machine.old.memory)) }
     // The reader has failed exactly at InputFault, the writer exactly at OutputFault.
     ensures failed { FailsIn result (R.in_failed reader.old) (W.out_failed writer.old)
         (R.in_failed reader.new) (W.out_failed writer.new) }

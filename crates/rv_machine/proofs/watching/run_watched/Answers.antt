@@ -1,6 +1,7 @@
 use Rattle.std.proofs.Common.{◌≡◌, suc, ◌-◌, ℕ, List, [], ◌∷◌, ◌++◌, refl, sym, ap, ◌∙◌, subst, arith}
 use Rattle.std.proofs.lemmas.List.{append-nil}
 use Rattle.rv_isa_laws.specs.Memory.{Mem}
+use Rattle.rv_memory.specs.HeldPages.{held_pages}
 use Rattle.rv_isa_laws.specs.Hart as laws
 use Rattle.rv_isa_laws.specs.Run.{run, fetch, step}
 use Rattle.rv_machine.specs.End.{law_end}
@@ -56,7 +57,7 @@ returns-in-Err-clause-runs g c =
       far.3,
       tt,
       λ r rest may.
-          let front = fronts r far.5 c.args.limit c.loop-remaining.remaining start (g.M.Memory.mem c.args.machine.now.memory) c.loop-remaining.machine.hart (g.M.Memory.mem c.loop-remaining.machine.memory) _ far.0 far.1 (far.4 r).0 (far.7 r) rest may in
+          let front = fronts r far.5 c.args.limit c.loop-remaining.remaining start (held_pages c.args.machine.now.memory) c.loop-remaining.machine.hart (held_pages c.loop-remaining.machine.memory) _ far.0 far.1 (far.4 r).0 (far.7 r) rest may in
           (front.0, front.1, (far.8, omega (arith, far.9), far.10 r rest may)),
     )
 
@@ -67,9 +68,9 @@ loop-remaining-preserved g c =
     let first : Input = input_left c.args.machine.now.intake.ended (g.R.GuestIn.ends c.args.reader.now) (g.R.GuestIn.remaining c.args.reader.now) in
     let before : Input = input_left c.loop-remaining.machine.intake.ended (g.R.GuestIn.ends c.loop-remaining.reader) (g.R.GuestIn.remaining c.loop-remaining.reader) in
     let after : Input = input_left c.step_told.new.intake.ended (g.R.GuestIn.ends c.step_told.new.reader) (g.R.GuestIn.remaining c.step_told.new.reader) in
-    let m0 : Mem = g.M.Memory.mem c.args.machine.now.memory in
-    let m : Mem = g.M.Memory.mem c.loop-remaining.machine.memory in
-    let m' : Mem = g.M.Memory.mem c.step_told.new.memory in
+    let m0 : Mem = held_pages c.args.machine.now.memory in
+    let m : Mem = held_pages c.loop-remaining.machine.memory in
+    let m' : Mem = held_pages c.step_told.new.memory in
     let far = c.loop-remaining.invariant.so_far in
     let more = c.in-Ok-Went.ensures.steps in
     record {
@@ -108,9 +109,9 @@ returns-in-Err-after-clause-runs g c =
     let first : Input = input_left c.args.machine.now.intake.ended (g.R.GuestIn.ends c.args.reader.now) (g.R.GuestIn.remaining c.args.reader.now) in
     let before : Input = input_left c.loop-remaining.machine.intake.ended (g.R.GuestIn.ends c.loop-remaining.reader) (g.R.GuestIn.remaining c.loop-remaining.reader) in
     let after : Input = input_left c.step_told.new.intake.ended (g.R.GuestIn.ends c.step_told.new.reader) (g.R.GuestIn.remaining c.step_told.new.reader) in
-    let m0 : Mem = g.M.Memory.mem c.args.machine.now.memory in
-    let m : Mem = g.M.Memory.mem c.loop-remaining.machine.memory in
-    let m' : Mem = g.M.Memory.mem c.step_told.new.memory in
+    let m0 : Mem = held_pages c.args.machine.now.memory in
+    let m : Mem = held_pages c.loop-remaining.machine.memory in
+    let m' : Mem = held_pages c.step_told.new.memory in
     let far = c.loop-remaining.invariant.so_far in
     let more = c.in-Ok-Went.ensures.steps in (
       far.0 ++ more.0,
@@ -139,9 +140,9 @@ returns-in-Ok-after-2-clause-runs g c =
     let first : Input = input_left c.args.machine.now.intake.ended (g.R.GuestIn.ends c.args.reader.now) (g.R.GuestIn.remaining c.args.reader.now) in
     let before : Input = input_left c.loop-remaining.machine.intake.ended (g.R.GuestIn.ends c.loop-remaining.reader) (g.R.GuestIn.remaining c.loop-remaining.reader) in
     let after : Input = input_left c.step_told.new.intake.ended (g.R.GuestIn.ends c.step_told.new.reader) (g.R.GuestIn.remaining c.step_told.new.reader) in
-    let m0 : Mem = g.M.Memory.mem c.args.machine.now.memory in
-    let m : Mem = g.M.Memory.mem c.loop-remaining.machine.memory in
-    let m' : Mem = g.M.Memory.mem c.step_told.new.memory in
+    let m0 : Mem = held_pages c.args.machine.now.memory in
+    let m : Mem = held_pages c.loop-remaining.machine.memory in
+    let m' : Mem = held_pages c.step_told.new.memory in
     let far = c.loop-remaining.invariant.so_far in
     let more = c.in-Ok-Ended.ensures.steps in (
       far.0 ++ more.0,
@@ -170,9 +171,9 @@ returns-in-Err-after-2-clause-runs g c =
     let first : Input = input_left c.args.machine.now.intake.ended (g.R.GuestIn.ends c.args.reader.now) (g.R.GuestIn.remaining c.args.reader.now) in
     let before : Input = input_left c.loop-remaining.machine.intake.ended (g.R.GuestIn.ends c.loop-remaining.reader) (g.R.GuestIn.remaining c.loop-remaining.reader) in
     let after : Input = input_left c.step_told.new.intake.ended (g.R.GuestIn.ends c.step_told.new.reader) (g.R.GuestIn.remaining c.step_told.new.reader) in
-    let m0 : Mem = g.M.Memory.mem c.args.machine.now.memory in
-    let m : Mem = g.M.Memory.mem c.loop-remaining.machine.memory in
-    let m' : Mem = g.M.Memory.mem c.step_told.new.memory in
+    let m0 : Mem = held_pages c.args.machine.now.memory in
+    let m : Mem = held_pages c.loop-remaining.machine.memory in
+    let m' : Mem = held_pages c.step_told.new.memory in
     let far = c.loop-remaining.invariant.so_far in
     let more = c.in-Ok-Ended.ensures.steps in (
       far.0 ++ more.0,
@@ -203,9 +204,9 @@ returns-in-Err-step_told-clause-runs g c =
     let first : Input = input_left c.args.machine.now.intake.ended (g.R.GuestIn.ends c.args.reader.now) (g.R.GuestIn.remaining c.args.reader.now) in
     let before : Input = input_left c.loop-remaining.machine.intake.ended (g.R.GuestIn.ends c.loop-remaining.reader) (g.R.GuestIn.remaining c.loop-remaining.reader) in
     let after : Input = input_left c.step_told.new.intake.ended (g.R.GuestIn.ends c.step_told.new.reader) (g.R.GuestIn.remaining c.step_told.new.reader) in
-    let m0 : Mem = g.M.Memory.mem c.args.machine.now.memory in
-    let m : Mem = g.M.Memory.mem c.loop-remaining.machine.memory in
-    let m' : Mem = g.M.Memory.mem c.step_told.new.memory in
+    let m0 : Mem = held_pages c.args.machine.now.memory in
+    let m : Mem = held_pages c.loop-remaining.machine.memory in
+    let m' : Mem = held_pages c.step_told.new.memory in
     let far = c.loop-remaining.invariant.so_far in
     let more = c.in-Err-step_told.ensures.steps in (
       far.0 ++ more.0,
@@ -226,7 +227,7 @@ returns-clause-runs g c =
     let none : c.loop-remaining.remaining ≡ 0 = omega (arith, c.loop-remaining-test.false) in
     let far = c.loop-remaining.invariant.so_far in
     let now : List ℕ → laws.Hart = λ rest. hart_of c.loop-remaining.machine.hart rest far.1 in
-    let m : Mem = g.M.Memory.mem c.loop-remaining.machine.memory in (
+    let m : Mem = held_pages c.loop-remaining.machine.memory in (
       far.0,
       far.1,
       far.5,
