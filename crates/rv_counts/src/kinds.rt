@@ -31,7 +31,7 @@ pub struct Kinds {
 }
 
 /// The kind of an instruction.
-#[inline]
+#[inline(always)]
 pub(crate) fn kind_of(inst: Inst) -> InstructionKind
     ensures { result ≡ instruction_kind (format_of inst) }
 {
@@ -70,7 +70,7 @@ impl Kinds {
     }
 
     /// With one more of a kind.
-    #[inline]
+    #[inline(always)]
     pub(crate) fn with(self, kind: InstructionKind) -> Self
         ensures { result ≡ with_kind self kind }
     {

@@ -54,7 +54,7 @@ impl Totals {
     }
 
     /// Those with one event more.
-    #[inline]
+    #[inline(always)]
     pub fn with(self, event: &Event) -> Self
         ensures { (m : Mem) → result ≡ with_event self (event_as event.now m) }
     {
@@ -116,7 +116,7 @@ fn is_compressed(fetched: Fetched) -> bool
 }
 
 /// The kinds with that of what was fetched, where it was executed.
-#[inline]
+#[inline(always)]
 fn with_executed(kinds: Kinds, executed: bool, fetched: Fetched) -> Kinds
     ensures { result ≡ if executed then with_kind_in (fetched_of fetched) kinds else kinds }
 {
