@@ -155,6 +155,7 @@ class Session:
         self.came = b""
         self.open = []
         self.latest = b""
+        self.asked = b""
         self.count = 0
         self.states = {}
         self.faults = []
@@ -207,6 +208,10 @@ class Session:
 
     def ask(self, content, use=lambda answer: None):
         """Sends a packet, and gives its answer to a function."""
+        # (one of this kind that comes twice before its answer is answered once: `waiting`)
+        if content.startswith(b"qSupported") and content == self.asked:
+            content = b"?"
+        self.asked = content
 
         def check():
             if self.take(1) != b"+":
