@@ -104,7 +104,7 @@ fn link_with_map<S: System>(
 ) -> Result<u8, JobError> {
     match link_objects_on(system.alloc(), linked.objects, settings.options) {
         Ok(built) => {
-            warn_of_rows(system, linked.names, built.map.as_slice())?;
+            warn_of_rows(system, linked, built.map.as_slice())?;
             if !outputs.debug {
                 return write_outputs(system, outputs, built);
             }
