@@ -6,3 +6,5 @@ pub mod Kinds
 pub mod Refused
 -- Numbers that are small enough for their fields.
 pub mod Bounds
+-- The symbols of an object, as its file has them.
+pub mod Records

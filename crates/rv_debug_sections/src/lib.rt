@@ -8,8 +8,9 @@
 //! Main contract: [`with_sections_of`] answers just `IsCarriedFile` of rv_debug_laws. The sections of one name are merged in
 //! the order of the objects, behind that of the executable, whose offsets so hold; relocations are applied, each to the
 //! address of its symbol, or to its place in a merged section; a field that means code which was dropped gets the number
-//! that says so. [`has_debug_sections`] and [`has_line_table`] tell what an object brings. The executable stands in front to the byte, but for the fields of its header that lead to the section
-//! headers, and is loaded as the same image. Nothing here knows DWARF: contents are bytes with relocations.
+//! that says so. The executable stands in front to the byte, but for the fields of its header
+//! that lead to the section headers, and is loaded as the same image. [`has_debug_sections`] and [`has_line_table`] tell what an object
+//! brings, and [`symbol_section`] and [`symbol_records`] its symbols as they stand. Nothing here knows DWARF: contents are bytes with relocations.
 //!
 //! ```text
 //! let objects = [Carried { file: &object, addresses: &addresses }];
@@ -27,11 +28,14 @@ mod merged;
 mod named;
 mod names;
 mod part;
+mod records;
 mod said;
 mod source;
 mod writing;
 
 pub use fault::CarryFault;
+pub use named::symbol_section;
+pub use records::symbol_records;
 pub use rv_debug_laws::Carried;
 pub use said::{has_debug_sections, has_line_table};
 pub use writing::with_sections_of;

@@ -59,7 +59,7 @@ fn is_called(strings: &[u8], name: &[u8], offset: u32) -> bool
 }
 
 /// The first section of symbols.
-fn symbol_section(view: &ElfView<'_>) -> Option<u16>
+pub fn symbol_section(view: &ElfView<'_>) -> Option<u16>
     ensures found { result ≡ laws.carried_section is_symbol_table view.now.file.now }
     ensures within { IfSome result (λ index. index < section_count view.now.file.now) }
 {

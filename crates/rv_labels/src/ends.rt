@@ -11,19 +11,14 @@ ghost use Rattle.rv_labels.specs.Indices.{ordinal_of};
 use rv_object_types::Row;
 
 /// Whether the rows stand in the order of their ordinals.
-pub(crate) fn are_ordered(rows: &[Row]) -> bool
+pub fn are_ordered(rows: &[Row]) -> bool
     ensures { result ≡ true → IsNonDecreasingBy ordinal_of rows.now }
 {
     rows.is_sorted_by_key(|row| row.ordinal)
 }
 
 /// The last statement of a section in front of the one of this ordinal, among rows that are known to be ordered or not.
-pub(crate) fn last_before(
-    rows: &[Row],
-    are_ordered: bool,
-    section: u32,
-    ordinal: u32,
-) -> Option<Row>
+pub fn last_before(rows: &[Row], are_ordered: bool, section: u32, ordinal: u32) -> Option<Row>
     ensures { (are_ordered ≡ true → IsNonDecreasingBy ordinal_of rows.now)
         → result ≡ laws.last_before section ordinal rows.now }
 {

@@ -14,7 +14,7 @@ use std::alloc::{AllocError, Global as Allocator};
 use std::collections::BTreeMap;
 
 /// What is known of globals, by the names of objects.
-pub(crate) fn known_globals<'a>(
+pub fn known_globals<'a>(
     alloc: Allocator,
     names: &[KnownName<'_>],
     globals: &'a [Global],

@@ -8,6 +8,10 @@
 //! `.L` are left out, as is what has no address: labels of sections that were dropped, and of objects without rows, which other
 //! tools made.
 //!
+//! What serves to name symbols otherwise than by rows is public too: which symbols are asked for ([`is_asked`]), what directives say
+//! of a name ([`said_names`]), the last statement in front of another ([`last_before`]), and the globals of a map by names of
+//! objects ([`known_globals`]).
+//!
 //! It knows neither files nor how addresses come about.
 //!
 //! ```text
@@ -30,8 +34,12 @@ mod said;
 mod spans;
 
 pub use described::Described;
+pub use ends::{are_ordered, last_before};
+pub use globals::known_globals;
 pub use known::{KnownName, Names};
 pub use link::names_of;
-pub use rv_debug_laws::{Mark, Said, SaidSize, SymbolType};
+pub use names::is_asked;
+pub use rv_debug_laws::{Mark, NameSaid, Said, SaidSize, SymbolType};
 pub use rv_map::{Global, Row};
 pub use rv_object_types::Object;
+pub use said::{said_names, said_of};

@@ -10,7 +10,7 @@ ghost use Rattle.rv_debug_laws.specs.Labels as laws;
 use rv_object_types::{Binding, Symbol};
 
 /// Whether a symbol is asked for: one that all files can mean, or else a label.
-pub(crate) fn is_asked(shared: bool, symbol: &Symbol<'_>) -> bool
+pub fn is_asked(shared: bool, symbol: &Symbol<'_>) -> bool
     ensures is { result ≡ laws.is_asked shared (symbol_of symbol.now) }
     ensures named { result ≡ true → IsTrue (is_name (symbol.now).name.now) }
 {

@@ -10,7 +10,7 @@ use std::alloc::{AllocError, Global};
 use std::collections::BTreeMap;
 
 /// By name what directives say of it.
-pub(crate) fn said_names<'m>(
+pub fn said_names<'m>(
     alloc: Global,
     marks: &[Mark<'m>],
 ) -> Result<BTreeMap<&'m [u8], NameSaid>, AllocError>
@@ -34,7 +34,7 @@ fn put_mark<'m>(said: &mut BTreeMap<&'m [u8], NameSaid>, mark: &Mark<'m>) -> Res
 }
 
 /// What is said of a name.
-pub(crate) fn said_of(said: &BTreeMap<&[u8], NameSaid>, name: &[u8]) -> NameSaid
+pub fn said_of(said: &BTreeMap<&[u8], NameSaid>, name: &[u8]) -> NameSaid
     ensures { (marks : List laws.Mark) → AreSaid said.now marks
         → result ≡ laws.said_of marks name.now }
 {

@@ -1,0 +1,2 @@
+-- The names of objects, one symbol after another.
+pub mod TablesLemmas

@@ -1,0 +1,4 @@
+-- The names of a link by the symbol tables of its objects' files.
+pub mod Tables
+-- What the code's own objects stand for.
+pub mod Views
