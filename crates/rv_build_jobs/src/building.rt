@@ -3,9 +3,9 @@
 //! A job writes no file before all that it writes is made.
 
 use crate::additions::Inputs;
-use crate::carrying::{addresses_of, debugged_with_sections};
+use crate::carrying::{addresses_of, lines_of, with_sections};
 use crate::debug_objects::{object_for_debuggers, objects_of_sources};
-use crate::debugging::{file_objects, paths_of_names, source_objects};
+use crate::debugging::{debugged, file_objects, paths_of_names, source_objects};
 use crate::defining::Definitions;
 use crate::files::{linked_files, object_files};
 use crate::linking::link_inputs;
@@ -231,15 +231,21 @@ fn build_for_debuggers<S: System>(
         objects.as_slice(),
         settings.options,
     )?;
-    debugged_with_sections(
+    let lines = lines_of(
+        alloc,
+        built.map.as_slice(),
+        files.as_slice(),
+        addresses.as_slice(),
+    )?;
+    let built = debugged(
         system,
         exe,
         paths.as_slice(),
         described.as_slice(),
-        files.as_slice(),
-        addresses.as_slice(),
+        lines.as_deref(),
         built,
-    )
+    )?;
+    with_sections(system, exe, files.as_slice(), addresses.as_slice(), built)
 }
 
 /// The executable that sources build, and its map.

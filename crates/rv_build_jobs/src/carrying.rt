@@ -3,9 +3,8 @@
 //! What a compiler says of its source stands beside what the map says. An object that has the lines of its code gets no lines
 //! of the assembly that the compiler wrote.
 
-use crate::debugging::debugged;
 use rv_chain::{Built, Fault, GroundOptions};
-use rv_debug::{Described, Object};
+use rv_debug::Object;
 use rv_debug_sections::{
     Carried, CarryFault, has_debug_sections, has_line_table, with_sections_of,
 };
@@ -24,20 +23,44 @@ pub(crate) fn addresses_of(
     objects: &[Object<'_>],
     options: GroundOptions,
 ) -> Result<Vec<Vec<Option<u64>>>, JobError> {
-    if !files.iter().any(|file| has_debug_sections(file)) {
+    if !has_any_debug_sections(files) {
         return Ok(Vec::new(alloc));
     }
-    match symbol_extents_on(alloc, objects, &[], options) {
-        Ok(extents) => {
-            let mut addresses: Vec<Vec<Option<u64>>> = Vec::new(alloc);
-            for row in &extents {
-                addresses.push(addresses_in(alloc, row.as_slice())?)?;
-            }
-            Ok(addresses)
-        }
+    let extents = extents_of(alloc, names, objects, &[], options)?;
+    Ok(all_addresses(alloc, extents.as_slice())?)
+}
+
+/// Whether one of these files has a debug section.
+pub(crate) fn has_any_debug_sections(files: &[&[u8]]) -> bool {
+    files.iter().any(|file| has_debug_sections(file))
+}
+
+/// Where a link puts the symbols of objects, whose files have these names, and how many bytes it leaves of each, by how many
+/// it has: all by object and symbol.
+pub(crate) fn extents_of(
+    alloc: Global,
+    names: &[&str],
+    objects: &[Object<'_>],
+    sizes: &[Vec<u64>],
+    options: GroundOptions,
+) -> Result<Vec<Vec<Option<SymbolExtent>>>, JobError> {
+    match symbol_extents_on(alloc, objects, sizes, options) {
+        Ok(extents) => Ok(extents),
         Err(LinkFault::OutOfMemory) => Err(JobError::Memory),
         Err(fault) => Err(fault_line(alloc, &Fault::Link(fault), names)?),
     }
+}
+
+/// The addresses of symbols, by object and symbol.
+pub(crate) fn all_addresses(
+    alloc: Global,
+    extents: &[Vec<Option<SymbolExtent>>],
+) -> Result<Vec<Vec<Option<u64>>>, AllocError> {
+    let mut addresses: Vec<Vec<Option<u64>>> = Vec::new(alloc);
+    for row in extents {
+        addresses.push(addresses_in(alloc, row.as_slice())?)?;
+    }
+    Ok(addresses)
 }
 
 /// The addresses of the symbols of an object.
@@ -84,33 +107,32 @@ fn is_among(skipped: &[bool], file: u64) -> bool {
     }
 }
 
-/// What was built of these objects, whose sources have these paths, with names and lines, and, if the addresses of their
-/// symbols are given, with the debug sections of their files.
-pub(crate) fn debugged_with_sections<S: System>(
-    system: &S,
-    exe: &str,
-    paths: &[Vec<u8>],
-    described: &[Described<'_>],
+/// The text of a map whose rows give the lines of what is built of files: none where it is its own. The symbols of files have
+/// these addresses, of which there are none where no file has a debug section.
+pub(crate) fn lines_of(
+    alloc: Global,
+    map: &[u8],
     files: &[&[u8]],
     addresses: &[Vec<Option<u64>>],
-    built: Built,
-) -> Result<Built, JobError> {
+) -> Result<Option<Vec<u8>>, AllocError> {
     if addresses.is_empty() {
-        return debugged(system, exe, paths, described, None, built);
+        return Ok(None);
     }
-    let lines = map_of_lines(system.alloc(), built.map.as_slice(), files)?;
-    let built = debugged(system, exe, paths, described, lines.as_deref(), built)?;
-    with_sections(system, exe, files, addresses, built)
+    map_of_lines(alloc, map, files)
 }
 
-/// What was built of objects whose symbols have these addresses, with the debug sections of the objects.
-fn with_sections<S: System>(
+/// What was built of objects whose symbols have these addresses, with the debug sections of the objects; as it is where there
+/// are no addresses.
+pub(crate) fn with_sections<S: System>(
     system: &S,
     exe: &str,
     objects: &[&[u8]],
     addresses: &[Vec<Option<u64>>],
     built: Built,
 ) -> Result<Built, JobError> {
+    if addresses.is_empty() {
+        return Ok(built);
+    }
     let alloc: Global = system.alloc();
     let carried = carried_objects(alloc, objects, addresses)?;
     match with_sections_of(alloc, built.exe.as_slice(), carried.as_slice()) {

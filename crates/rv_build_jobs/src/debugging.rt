@@ -1,13 +1,14 @@
 //! Executables with names and lines for debuggers.
 //!
 //! They stand behind the executable, whose image stays what it is, and the map stays the same too. Names and lines are those of
-//! the map, and labels those of the objects; paths of sources are as the words name them, below the working directory, and
-//! those of objects as the objects name their sources.
+//! the map, and labels, types and sizes those of the sources, or of the objects' symbol tables; paths of sources are as the words
+//! name them, below the working directory, and those of objects as the objects name their sources.
 
 use rv_assemble::{SourceFault, assemble};
 use rv_chain::{Built, Fault, FileFault};
 use rv_debug::{
-    DebugFault, Described, Object, SourceFile, debug_file, path_from, source_of, with_source,
+    DebugFault, Described, Object, SourceFile, Tabled, debug_file, debug_file_of_tables, path_from,
+    source_of, with_source,
 };
 use rv_marks::marks;
 use rv_object_reader::read;
@@ -27,19 +28,49 @@ pub(crate) fn debugged<S: System>(
     let alloc: Global = system.alloc();
     let directory = directory(system)?;
     let sources = source_files(alloc, paths)?;
-    let map = lines.unwrap_or(built.map.as_slice());
-    match debug_file(
+    let file = debug_file(
         alloc,
         built.exe.as_slice(),
-        map,
+        lines.unwrap_or(built.map.as_slice()),
         objects,
         directory.as_bytes(),
         sources.as_slice(),
-    ) {
-        Ok(file) => Ok(Built {
-            exe: file,
-            map: built.map,
-        }),
+    );
+    with_file(alloc, exe, file, built.map)
+}
+
+/// As [`debugged`], with the names that the objects' symbol tables have.
+pub(crate) fn debugged_by_tables<S: System>(
+    system: &S,
+    exe: &str,
+    paths: &[Vec<u8>],
+    objects: &[Tabled<'_, '_>],
+    lines: Option<&[u8]>,
+    built: Built,
+) -> Result<Built, JobError> {
+    let alloc: Global = system.alloc();
+    let directory = directory(system)?;
+    let sources = source_files(alloc, paths)?;
+    let file = debug_file_of_tables(
+        alloc,
+        built.exe.as_slice(),
+        lines.unwrap_or(built.map.as_slice()),
+        objects,
+        directory.as_bytes(),
+        sources.as_slice(),
+    );
+    with_file(alloc, exe, file, built.map)
+}
+
+/// What was built, as this file with names and lines.
+fn with_file(
+    alloc: Global,
+    exe: &str,
+    file: Result<Vec<u8>, DebugFault>,
+    map: Vec<u8>,
+) -> Result<Built, JobError> {
+    match file {
+        Ok(exe) => Ok(Built { exe, map }),
         Err(DebugFault::OutOfMemory) => Err(JobError::Memory),
         Err(fault) => Err(JobError::Line(format!(in alloc;
             "{exe}: no names and lines for debuggers: {fault}"
@@ -86,21 +117,6 @@ pub(crate) fn file_objects<'f>(
         }
     }
     Ok(objects)
-}
-
-/// Objects of whose sources nothing is said.
-pub(crate) fn without_marks<'f>(
-    alloc: Global,
-    objects: Vec<Object<'f>>,
-) -> Result<Vec<Described<'f>>, AllocError> {
-    let mut described: Vec<Described<'f>> = Vec::new(alloc);
-    for object in objects {
-        described.push(Described {
-            object,
-            marks: Vec::new(alloc),
-        })?;
-    }
-    Ok(described)
 }
 
 /// The working directory, by a name of its own where the system does not say it.

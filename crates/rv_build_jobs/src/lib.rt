@@ -28,6 +28,7 @@ mod padding;
 mod refusing;
 mod rows;
 mod settling;
+mod tabling;
 mod taking;
 
 pub use boards::run_on_board;

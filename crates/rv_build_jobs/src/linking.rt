@@ -1,14 +1,15 @@
 //! Links objects, and the members of archives that they ask for.
 
 use crate::building::write_outputs;
-use crate::carrying::{addresses_of, debugged_with_sections};
+use crate::carrying::{lines_of, with_sections};
 use crate::debug_objects::objects_of_sources;
-use crate::debugging::{file_objects, paths_of_objects, without_marks};
+use crate::debugging::{debugged_by_tables, file_objects, paths_of_objects};
 use crate::defining::Definitions;
 use crate::files::{LinkFile, linked_files};
 use crate::refusing::{Linked, refused_link};
 use crate::rows::warn_of_rows;
 use crate::settling::settle_files;
+use crate::tabling::SymbolTables;
 use crate::taking::{bytes_of, names_of, objects_of};
 use rv_chain::{Built, link_objects_exe_on, link_objects_on};
 use rv_job::{AskedLink, LinkOutputs, LinkSettings};
@@ -127,25 +128,28 @@ fn linked_debugged<S: System>(
     let alloc: Global = system.alloc();
     let own = objects_of_sources(system, linked.names, linked.sources)?;
     let files = with_first(alloc, own.as_slice(), linked.objects)?;
-    let objects = file_objects(alloc, linked.names, files.as_slice())?;
-    let addresses = addresses_of(
+    let files = files.as_slice();
+    let objects = file_objects(alloc, linked.names, files)?;
+    let tables = SymbolTables::of(
         alloc,
         linked.names,
-        files.as_slice(),
+        files,
         objects.as_slice(),
         settings.options,
     )?;
-    let paths = paths_of_objects(system, linked.names, files.as_slice())?;
-    let described = without_marks(alloc, objects)?;
-    debugged_with_sections(
+    let tabled = tables.with(alloc, objects.as_slice())?;
+    let addresses = tables.addresses(alloc, files)?;
+    let paths = paths_of_objects(system, linked.names, files)?;
+    let lines = lines_of(alloc, built.map.as_slice(), files, addresses.as_slice())?;
+    let built = debugged_by_tables(
         system,
         exe,
         paths.as_slice(),
-        described.as_slice(),
-        files.as_slice(),
-        addresses.as_slice(),
+        tabled.as_slice(),
+        lines.as_deref(),
         built,
-    )
+    )?;
+    with_sections(system, exe, files, addresses.as_slice(), built)
 }
 
 /// Files, of which others stand in the place of the first ones.

@@ -15,7 +15,6 @@ use Rattle.rv_debug.specs.Table.{IsLong}
 use Rattle.rv_debug.specs.declared.fault.DebugFault.{DebugFault}
 use Rattle.rv_debug.specs.declared.fault.DebugFault.TheVariants as faults
 use Rattle.rv_debug_laws.specs.Code.{are_by_file, code_of}
-use Rattle.rv_debug_laws.specs.Labels.{Described, link_names}
 use Rattle.rv_debug_laws.specs.Stored.{can_grow, stored_at}
 use Rattle.rv_debug_laws.specs.Symbols.{Names, string_table}
 use Rattle.rv_debug_laws.specs.Units.{AddUnits, DebugBytes, no_debug}
@@ -83,21 +82,20 @@ pub record IsTextOf (text : List ℕ) (m : Map) : Type 0 where
   pub is : text ≡ map_text m
   pub only : (other : Map) → IsMap other → text ≡ map_text other → other ≡ m
 
--- why the executable of a map of this text, linked of these objects, gets none
-abbrev pub IsRefusedBy : (exe text : List ℕ) → List Described → (directory : List ℕ)
+-- why the executable of a map of this text, of which these names are known, gets none
+abbrev pub IsRefusedBy : (exe text : List ℕ) → (Map → Names) → (directory : List ℕ)
     → List SourceFile → DebugFault → Type 0
-IsRefusedBy exe text objects directory sources fault =
-    (m : Map) × IsTextOf text m
-    × IsDebugRefused exe m (link_names m.rows m.globals objects) directory sources fault
+IsRefusedBy exe text names directory sources fault =
+    (m : Map) × IsTextOf text m × IsDebugRefused exe m (names m) directory sources fault
 
-abbrev pub IsTextRefused : (exe text : List ℕ) → List Described → (directory : List ℕ)
+abbrev pub IsTextRefused : (exe text : List ℕ) → (Map → Names) → (directory : List ℕ)
     → List SourceFile → DebugFault → Type 0
-IsTextRefused exe text objects directory sources faults.NoMap =
+IsTextRefused exe text names directory sources faults.NoMap =
     (m : Map) → IsMap m → text ≡ map_text m → ⊥
-IsTextRefused exe text objects directory sources faults.OtherExecutable =
-    IsRefusedBy exe text objects directory sources faults.OtherExecutable
-IsTextRefused exe text objects directory sources faults.RowsOutOfOrder =
-    IsRefusedBy exe text objects directory sources faults.RowsOutOfOrder
-IsTextRefused exe text objects directory sources faults.TooLong =
-    IsRefusedBy exe text objects directory sources faults.TooLong
-IsTextRefused exe text objects directory sources faults.OutOfMemory = ⊤
+IsTextRefused exe text names directory sources faults.OtherExecutable =
+    IsRefusedBy exe text names directory sources faults.OtherExecutable
+IsTextRefused exe text names directory sources faults.RowsOutOfOrder =
+    IsRefusedBy exe text names directory sources faults.RowsOutOfOrder
+IsTextRefused exe text names directory sources faults.TooLong =
+    IsRefusedBy exe text names directory sources faults.TooLong
+IsTextRefused exe text names directory sources faults.OutOfMemory = ⊤

@@ -8,6 +8,9 @@ use Rattle.rv_map_laws.specs.Map.{Map}
 use Rattle.rv_labels.specs.declared.described.Described.{Described as DeclaredDescribed}
 use Rattle.rv_labels.specs.declared.known.KnownName.{KnownName as DeclaredName}
 use Rattle.rv_labels.specs.Known.{described_of, known_of}
+use Rattle.rv_table_names.specs.declared.tabled.Tabled.{Tabled as DeclaredTabled}
+use Rattle.rv_table_names.specs.Tables.{Tabled}
+use Rattle.rv_table_names.specs.Views.{tabled_of}
 use Rattle.rv_debug_laws.specs.declared.line_row.SourceFile.{SourceFile}
 use Rattle.rv_debug_laws.specs.File.{UnloadedPiece, Places, section_total, shstrtab_index}
 use Rattle.rv_debug_laws.specs.Labels.{Described}
@@ -37,6 +40,9 @@ known_list names = map known_of names
 
 abbrev pub plain_objects : List DeclaredDescribed → List Described
 plain_objects objects = map described_of objects
+
+abbrev pub plain_tables : List DeclaredTabled → List Tabled
+plain_tables objects = map tabled_of objects
 
 abbrev pub debug_of : DebugSections → DebugBytes
 debug_of d = record { lines = d.lines.items; info = d.info.items; ranges = d.ranges.items }

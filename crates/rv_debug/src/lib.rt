@@ -8,7 +8,8 @@
 //! executable stands in front to the byte, but for the fields of its header that lead to the section headers; that it is
 //! loaded as the same image; that each symbol has the address, the type and the size of its name; and that the line tables are the map's rows of code
 //! with their files and lines. [`debug_file`] does that by the text of a map and the objects that were linked, whose names
-//! are those of rv_labels. It does not know sources.
+//! are those of rv_labels, and [`debug_file_of_tables`] with those of the objects' symbol tables (rv_table_names). It does not know
+//! sources.
 //!
 //! Line tables are written by rows of code, each with its address, size, file and line, in any order. Where a row begins at the
 //! address behind the code before it, the program of a table goes on by one byte or a few; elsewhere a sequence ends and the next
@@ -59,6 +60,7 @@ pub use reading::source_of;
 pub use rv_debug_laws::{LineRow, SourceFile};
 pub use rv_labels::{Described, KnownName, Mark, Names, Object, Said, SaidSize, SymbolType};
 pub use rv_map::{Global, Map};
-pub use text::debug_file;
+pub use rv_table_names::{SymbolExtent, SymbolRecord, Tabled, symbol_sizes};
+pub use text::{debug_file, debug_file_of_tables};
 pub use unit::line_unit;
 pub use writing::with_debug;

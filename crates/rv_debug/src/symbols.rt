@@ -6,12 +6,13 @@ ghost use Rattle.rv_elf_laws.specs.Records.{symbol_bytes};
 ghost use Rattle.rv_map.specs.Views.{map_of};
 ghost use Rattle.rv_labels.specs.Known.{known_of, plain_names};
 ghost use Rattle.rv_debug.specs.Views.{known_list};
-ghost use Rattle.rv_debug_laws.specs.Symbols.{IsKnownName, has_address, name_strings, address_section, string_table, name_symbol, symbol_table, symbols_from, type_number};
+ghost use Rattle.rv_debug_laws.specs.Symbols.{IsKnownName, has_address, name_strings, address_section, string_table, name_symbol, symbol_table, symbols_from};
 
 use crate::numbers::{BSS, DATA, RODATA, TEXT};
 use rv_elf::{ElfWriter, SHN_ABS, STB_GLOBAL, STB_LOCAL, SYMBOL_SIZE, Symbol};
-use rv_labels::{KnownName, Names, SymbolType};
+use rv_labels::{KnownName, Names};
 use rv_map::{Map, Region};
+use rv_table_names::type_number;
 use std::alloc::{AllocError, Global};
 
 /// The strings: the empty name, those of labels, and those of globals, each with a zero behind it.
@@ -113,18 +114,6 @@ fn put_symbol(
         st_size: known.size,
     })?;
     Ok(())
-}
-
-/// STT_NOTYPE, STT_OBJECT, STT_FUNC.
-fn type_number(kind: SymbolType) -> u8
-    ensures is { result ≡ type_number kind }
-    ensures low { result < 16 }
-{
-    match kind {
-        SymbolType::NoType => 0,
-        SymbolType::Datum => 1,
-        SymbolType::Function => 2,
-    }
 }
 
 /// The index of an address's section: that of the region in which it lies, or else at whose end it stands.

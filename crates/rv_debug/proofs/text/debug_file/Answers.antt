@@ -13,4 +13,4 @@ returns-clause-refuses c =
     let text : IsTextOf c.args.map.now m = search rules in
     let same : plain_names c.in_ok-names.names ≡ link_names m.rows m.globals (plain_objects c.args.objects.now) =
     c.in_ok-names.ensures ∙ (λ i. link_names (c.as_slice.ensures.value i) (map global_of (c.as_slice-2.ensures.value i)) (plain_objects c.args.objects.now)) in
-    refused_by c.args.exe.now c.args.map.now (plain_objects c.args.objects.now) c.args.directory.now c.args.sources.now m _ text same c.with_debug.result c.with_debug.ensures.refuses
+    refused_by c.args.exe.now c.args.map.now (λ n. link_names n.rows n.globals (plain_objects c.args.objects.now)) c.args.directory.now c.args.sources.now m _ text same c.with_debug.result c.with_debug.ensures.refuses
