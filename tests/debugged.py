@@ -11,8 +11,10 @@ usage: debugged.py [NAME ..]     only cases whose path below tests/ begins so
   (GNU as): a number, or from the name to the end of the last statement of its section in front of the directive.
 - The line tables, run by the state machine of DWARF 5, 6.2, are the map's rows of code of each source that has some,
   with an end behind each stretch. An entry of .debug_info (3.1.1, 7.5) and one of .debug_aranges (6.1.2) lead to each.
-- Objects of `rv as -g` are linked by `rv ld -g` to the same bytes but for types and sizes, and without -g to the
-  executable without it.
+- Symbols of objects of `rv as -g` have these types, and as sizes the bytes of the object up to there.
+- These objects are linked by `rv ld -g` to the same bytes but for the symbols, and without -g to the executable
+  without it. The symbols are those of the objects, also at no statement: with their types, at the addresses of their
+  places, and up to the addresses of their ends.
 
 Standard library alone; the last line is 'N passed, M failed'.
 """
@@ -27,6 +29,7 @@ from twice import both, call, main
 OPTION = "-g"
 STMT_LIST, LOW_PC, HIGH_PC, NAME, COMP_DIR = 0x10, 0x11, 0x12, 0x03, 0x1B
 ADDR, DATA1, DATA2, DATA8, STRING, SEC_OFFSET = 0x01, 0x0B, 0x05, 0x07, 0x08, 0x17
+SYMBOLS = (".symtab", ".strtab")
 SIZES = {ADDR: 8, DATA1: 1, DATA2: 2, DATA8: 8, SEC_OFFSET: 4}
 
 
@@ -81,11 +84,11 @@ def symbols(found):
         yield is_local, Reader(strings, name).string().decode(), section, value, info & 15, size
 
 
-def untyped(held):
-    """An executable without the types and the sizes of its symbols."""
-    header, table = sections(held)[".symtab"]
-    rows = [(*it[:1], it[1] & 0xF0, *it[2:5], 0) for it in struct.iter_unpack("<IBBHQQ", table)]
-    return held[: header[4]] + b"".join(struct.pack("<IBBHQQ", *it) for it in rows) + held[header[4] + header[5] :]
+def but_symbols(held, size):
+    """The first bytes of an executable, but for what leads to section headers, and its sections but for symbols."""
+    found = sections(held)
+    found = {it: (found[it][0][1:4], *found[it][0][5:], found[it][1]) for it in found if it not in SYMBOLS}
+    return held[:40] + held[48:58] + held[64:size], found
 
 
 def statements(text):
@@ -110,14 +113,24 @@ def said(text):
     return types, sizes
 
 
+def known_rows(text):
+    """The address and the size of each row of a map's text, by its file and ordinal."""
+    rows = [it.split() for it in text.splitlines() if it.startswith("row ")]
+    return {(int(it[1]), int(it[3])): (int(it[4], 16), int(it[5])) for it in rows}
+
+
+def object_rows(found):
+    """The rows of an object."""
+    return [*struct.iter_unpack("<IIIIQII", found[".rv.rows"][1])] if ".rv.rows" in found else []
+
+
 def names_of(folder, sources, text):
     """The names of the objects of sources, with the addresses of the statements there by a map's text."""
-    rows = [it.split() for it in text.splitlines() if it.startswith("row ")]
-    known = {(int(it[1]), int(it[3])): (int(it[4], 16), int(it[5])) for it in rows}
+    known = known_rows(text)
     for file, source in enumerate(sources, 1):
         types, sizes = said((folder / source).read_text("latin-1"))
         found = sections((folder / f"{file - 1}.o").read_bytes())
-        rows = [*struct.iter_unpack("<IIIIQII", found[".rv.rows"][1])] if ".rv.rows" in found else []
+        rows = object_rows(found)
         places = {(it[2], it[4]): it[1] for it in rows}
         for is_local, name, section, value, *_ in symbols(found):
             address, _ = known.get((file, places.get((section, value))), (None, 0))
@@ -130,12 +143,50 @@ def names_of(folder, sources, text):
             yield is_local, name, address, types.get(name, 0), size
 
 
+def told_by(source, found):
+    """The types and the sizes that symbols of an object are to have, by the directives of its source."""
+    types, sizes = said(source)
+    rows = object_rows(found)
+    for _, name, section, value, *_ in symbols(found):
+        behind, size = sizes.get(name, (None, 0))
+        if behind is not None:
+            ends = [it[4] + it[5] for it in rows if it[2] == section and it[1] < behind]
+            size = max(0, ends[-1] - value) if ends else 0
+        yield name, types.get(name, 0), size if 0 < section < 0xFF00 else 0
+
+
+def table_names(folder, sources, text):
+    """The names of the objects of sources by their tables, with addresses by a map's text."""
+    known = known_rows(text)
+    for file, source in enumerate(sources, 1):
+        found = sections((folder / f"{file - 1}.o").read_bytes())
+        rows = object_rows(found)
+        headers = [it for it, _ in found.values()]
+        has = [(name, *rest) for _, name, _, _, *rest in symbols(found)]
+        same("symbols of an object", [*told_by((folder / source).read_text("latin-1"), found)], has)
+
+        def address(section, value):
+            there = [it for it in rows if it[2] == section and it[4] <= value]
+            there.sort(key=lambda it: (it[4] + it[5] >= value, it[4] == value, it[4], it[1]))
+            if not there or (file, there[-1][1]) not in known:
+                return None
+            at, size = known[file, there[-1][1]]
+            offset, bytes_before = there[-1][4], there[-1][5]
+            return at + min(value - offset, size) + max(0, value - offset - bytes_before)
+
+        for is_local, name, section, value, kind, size in symbols(found):
+            at = address(section, value) if 0 < section < 0xFF00 else None
+            if at is None or not name or is_local and name.startswith(".L"):
+                continue
+            is_inside = value + size <= headers[section][5]
+            yield is_local, name, at, kind, (address(section, value + size) - at if is_inside else 0)
+
+
 def globals_of(names, known):
-    """Globals with their types and sizes, by the last object that has the name, if that stands at the address."""
-    last = {name: rest for is_local, name, *rest in names if not is_local}
+    """Globals with their types and sizes, by an object that has the name at the address."""
+    last = {(name, at): rest for is_local, name, at, *rest in names if not is_local}
     for name, address in known:
-        at, *rest = last.get(name, (None,))
-        yield name, address, *(rest if at == address else (0, 0))
+        yield name, address, *last.get((name, address), (0, 0))
 
 
 def table(held, at):
@@ -262,7 +313,13 @@ def compare(folder, words):
     if len(names) < 5 and not {"-l", "--library"} & set(given):
         options = [it for it in given[1:] if it not in names]
         linked, less = link(folder, options, names)
-        same("what objects are linked to", [untyped(known), plain], [linked, less])
+        same("what objects are linked to", plain, less)
+        same("beside symbols", but_symbols(known, len(plain)), but_symbols(linked, len(plain)))
+        of_objects, others = [*table_names(folder, names, text)], [*symbols(sections(linked))]
+        same("labels of objects", [it[1:] for it in of_objects if it[0]], [(it[1], *it[3:]) for it in others if it[0]])
+        shared = [(it[1], *it[3:]) for it in others if not it[0]]
+        same("globals of objects", list(globals_of(of_objects, [it[:2] for it in shared])), shared)
+        same("names of globals", wanted, [it[:2] for it in shared])
         said_of = [*names_of(folder, names, text)]
         same("labels", [it[1:] for it in said_of if it[0]], [(it[1], *it[3:]) for it in symbols(found) if it[0]])
         shared = [(it[1], *it[3:]) for it in symbols(found) if not it[0]]

@@ -3,12 +3,14 @@
 usage: compare.py debuggers [SOURCE ..]
 
 Of each source, by default those of examples/ and of the cases of tests/run, of a program of two sources and one
-without code; and of a program of C, by GCC at four levels, the types and the sizes alone:
+without code; and of a program of C, by GCC at four levels, the types and the sizes alone. And the symbols of objects
+that GCC made of two sources of C, with and without relaxation, in sections of their own or not, linked with and
+without collection, in both orders and from an archive: names, types, sizes and whether they are local:
 
   nm         each global has the map's address; the local symbols that are no constants have the names, and those of
              code the source and line, that they have in the executable of GNU as and ld
   readelf    the decoded lines are the map's rows of code, and those of `rv ld -g` of objects of `rv as -g`; symbols
-             have the types and the sizes that they have in the executable of GNU as and ld
+             of both have the types and the sizes that they have in the executable of GNU as and ld
   addr2line  each row of code has its source and line
   dwarfdump  `llvm-dwarfdump --verify` finds nothing wrong
   objdump    -dl shows the lines that it shows of GNU as and ld, in the same order
@@ -29,7 +31,7 @@ from pathlib import Path
 from against.common import GNU, ROOT, RV, need
 from run import cases
 
-TOOLS = [f"{GNU}{it}" for it in ("gcc", "nm", "readelf", "addr2line", "objdump", "objcopy", "strip", "as", "ld")]
+TOOLS = [f"{GNU}{it}" for it in ("gcc", "nm", "readelf", "addr2line", "objdump", "objcopy", "strip", "as", "ld", "ar")]
 # Two sources whose sections of text interleave, and one of data alone.
 FIRST = b""".globl _start
 _start: li a0, 3
@@ -77,6 +79,22 @@ _start: call main
 .size _start, . - _start
 """
 LEVELS = ("-O0", "-O1", "-O2", "-Os")
+# Two sources of C whose objects are linked: static functions and data, weak ones, and some that nothing needs.
+OBJECTS = {
+    "start": START.replace(b".option norvc\n", b""),
+    "first": PROGRAM.replace(b"= twice(k);", b"= twice(hook(k));").replace(
+        b"int main",
+        b"__attribute__((weak)) int hook(int x) { return x; }\nint unused(int x) { return 2 * x; }\nint main",
+    ),
+    "second": b"""static int state = 4, never[7];
+static int step(int x) { return x * state; }
+int (*volatile chosen)(int) = step;
+int *spare(void) { return never; }
+int hook(int x) { state++; return chosen(x); }
+""",
+}
+# What each linker defines itself.
+LINKERS = re.compile(r"_?(etext|edata|end)|__bss_start|__global_pointer\$|__(SDATA|DATA)_BEGIN__|__BSS_END__")
 
 
 def compiled(level):
@@ -138,17 +156,46 @@ def link_by_gnu(folder, names):
 
 def type_differences(folder):
     """Whether names have other types and sizes than in the executable of GNU as and ld."""
-    ours, theirs = typed(folder, "exe"), typed(folder, "gnu")
-    both = {it[0] for it in ours} & {it[0] for it in theirs}
-    if [it for it in ours if it[0] in both] != [it for it in theirs if it[0] in both]:
-        yield "readelf: types and sizes"
+    theirs = typed(folder, "gnu")
+    for exe in ("exe", "linked"):
+        ours = typed(folder, exe)
+        both = {it[0] for it in ours} & {it[0] for it in theirs}
+        if [it for it in ours if it[0] in both] != [it for it in theirs if it[0] in both]:
+            yield f"readelf: types and sizes of {exe}"
 
 
 def c_differences(folder, names):
     """The same of a program of C, of whose sections GNU ld has some in another order."""
     output(folder, RV, "build", "-g", "-o", "exe", *names)
+    lines_of_objects(folder, names)
     link_by_gnu(folder, names)
     yield from type_differences(folder)
+
+
+def tabled(folder, exe):
+    """Name, type, size and whether it is local of each symbol that no linker defines, in the order of names."""
+    found = [it.split() for it in output(folder, f"{GNU}readelf", "-sW", exe).splitlines()]
+    found = [it for it in found if len(it) == 8 and it[0][:-1].isdigit() and it[3] in ("NOTYPE", "OBJECT", "FUNC")]
+    return sorted((it[7], it[3], it[2], it[4] == "LOCAL") for it in found if not LINKERS.fullmatch(it[7]))
+
+
+def object_differences(folder, words, is_relaxed):
+    """Whether symbols of links of objects by GCC are others than in the executables of GNU ld."""
+    option = "-mrelax" if is_relaxed else "-mno-relax"
+    for name in OBJECTS:
+        words_of = [f"{GNU}gcc", *words, option, "-march=rv64imac", "-mabi=lp64", "-mcmodel=medany", "-c", "-x"]
+        words_of += ["assembler" if name == "start" else "c", name]
+        output(folder, *words_of)
+    (folder / "lib.a").unlink(missing_ok=True)
+    output(folder, f"{GNU}ar", "rcs", "lib.a", "second.o")
+    far = ["--defsym=__global_pointer$=0x70000000", *([] if is_relaxed else ["--no-relax"])]
+    for inputs in (["first.o", "second.o"], ["second.o", "first.o"], ["first.o", "lib.a"]):
+        for collects in ([], ["--gc-sections"]):
+            output(folder, f"{GNU}ld", *far, *collects, "-o", "gnu", "start.o", *inputs)
+            ours = [part for it in inputs for part in (["--library", it] if it == "lib.a" else [it])]
+            output(folder, RV, "ld", "-g", *collects, "-o", "exe", "start.o", *ours)
+            if tabled(folder, "exe") != tabled(folder, "gnu"):
+                yield f"symbols: {' '.join([*inputs, *collects])}"
 
 
 def lines_of_objects(folder, names):
@@ -226,6 +273,17 @@ def programs(given):
     yield "three sources", {"first.s": FIRST, "second.s": SECOND, "third.s": THIRD}
     for level in LEVELS:
         yield f"C {level}", {"start.s": START, "program.s": compiled(level)}
+    for level in LEVELS:
+        for option in ((), ("-ffunction-sections", "-fdata-sections")):
+            for is_relaxed in (True, False):
+                yield (" ".join((level, *option)), is_relaxed), OBJECTS
+
+
+def found_in(folder, title, names):
+    """What the tools say otherwise of a program."""
+    if isinstance(title, tuple):
+        return object_differences(folder, title[0].split(), title[1])
+    return (c_differences if title.startswith("C ") else differences)(folder, names)
 
 
 def main():
@@ -237,7 +295,7 @@ def main():
             for name, held in files.items():
                 (folder / name).write_bytes(held)
             try:
-                found = list((c_differences if title.startswith("C ") else differences)(folder, list(files)))
+                found = list(found_in(folder, title, list(files)))
             except ValueError as why:
                 found = [str(why)]
         if found:

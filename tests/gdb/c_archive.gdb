@@ -42,13 +42,13 @@ Breakpoint 1, push (top=0x0, first=97 'a') at library.c:10
 10	    return made;
 (gdb) continue
 
-Breakpoint 1, push (top=0x11010, first=98 'b') at library.c:10
+Breakpoint 1, push (top=0x11010 <arena+16>, first=98 'b') at library.c:10
 10	    return made;
 (gdb) backtrace
-#0  push (top=0x11010, first=98 'b') at library.c:10
+#0  push (top=0x11010 <arena+16>, first=98 'b') at library.c:10
 #1  0x000000000001002e in main () at prog.c:11
 (gdb) print *made
-$1 = {next = 0x11010, name = "b\000\000"}
+$1 = {next = 0x11010 <arena+16>, name = "b\000\000"}
 (gdb) print *made->next
 $2 = {next = 0x0, name = "a\000\000"}
 (gdb) print used
@@ -57,7 +57,7 @@ $3 = 2
 $4 = 16
 (gdb) finish
 ...
-Value returned is $5 = (struct cell *) 0x11020
+Value returned is $5 = (struct cell *) 0x11020 <arena+32>
 (gdb) next
 12	    return top->name[0] - top->next->name[0];
 (gdb) print top->next->name

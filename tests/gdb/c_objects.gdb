@@ -32,10 +32,10 @@ int main(void)
 ...
 (gdb) continue
 
-Breakpoint 1, sum (p=0x11008, n=4) at prog.c:9
+Breakpoint 1, sum (p=0x11008 <where>, n=4) at prog.c:9
 9	    int s = 0;
 (gdb) backtrace
-#0  sum (p=0x11008, n=4) at prog.c:9
+#0  sum (p=0x11008 <where>, n=4) at prog.c:9
 #1  0x00000000000100a2 in main () at prog.c:18
 (gdb) print *p
 $1 = {x = 5, y = 2}

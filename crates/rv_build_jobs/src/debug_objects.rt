@@ -13,9 +13,12 @@ use rv_assemble::{SourceFault, assemble};
 use rv_chain::Fault;
 use rv_debug_sources::{changed_source, unloaded, without_debug_rows};
 use rv_fault::FileFault;
+use rv_marks::{Mark, marks};
+use rv_object_reader::read;
 use rv_object_types::Object;
 use rv_object_writer::write;
 use rv_system::{JobError, System, fault_line};
+use rv_typed_objects::typed;
 use std::alloc::{AllocError, Global};
 
 /// The file of the object of a source of this name, which it has in it, with what its debug sections refer to.
@@ -28,19 +31,21 @@ pub(crate) fn object_for_debuggers<S: System>(
 ) -> Result<Vec<u8>, JobError> {
     let alloc: Global = system.alloc();
     let Some(changed) = changed_source(alloc, text)? else {
-        return plain_object(system, name, text, relax, explains);
+        let file = plain_object(system, name, text, relax, explains)?;
+        return typed_object(alloc, name, file.as_slice(), text, relax);
     };
     match loaded_object(alloc, changed.as_slice(), relax) {
         Ok(file) => {
             // (what writes the name reads no relocations of sections that are not loaded)
             let named = named_object(system, name, file.as_slice())?;
-            unloaded_object(alloc, name, named.as_slice())
+            let file = unloaded_object(alloc, name, named.as_slice())?;
+            typed_object(alloc, name, file.as_slice(), changed.as_slice(), relax)
         }
         Err(SourceFault::OutOfMemory) => Err(JobError::Memory),
         Err(fault) => {
             let file = plain_object(system, name, text, relax, explains)?;
             warn_of_plain(system, name, fault)?;
-            Ok(file)
+            typed_object(alloc, name, file.as_slice(), text, relax)
         }
     }
 }
@@ -108,6 +113,39 @@ fn unloaded_object(alloc: Global, source: &str, file: &[u8]) -> Result<Vec<u8>, 
             "{source}: no debug sections: {fault}"
         )?)),
     }
+}
+
+/// The file of the object of this text, whose symbols have the types and the sizes that its directives say.
+fn typed_object(
+    alloc: Global,
+    source: &str,
+    file: &[u8],
+    text: &[u8],
+    relax: bool,
+) -> Result<Vec<u8>, JobError> {
+    if relax {
+        return typed_by(alloc, source, file, text);
+    }
+    let text = without_relaxation(alloc, text)?;
+    typed_by(alloc, source, file, text.as_slice())
+}
+
+/// The file of the object of the statements of this text, with the types and the sizes that these say.
+fn typed_by(alloc: Global, source: &str, file: &[u8], text: &[u8]) -> Result<Vec<u8>, JobError> {
+    let marks = marks(alloc, text)?;
+    match with_types(alloc, file, marks.as_slice()) {
+        Ok(typed) => Ok(typed),
+        Err(FileFault::OutOfMemory) => Err(JobError::Memory),
+        Err(fault) => Err(JobError::Line(format!(in alloc;
+            "{source}: no types and sizes: {fault}"
+        )?)),
+    }
+}
+
+/// The file of an object, with the types and the sizes that directives say.
+fn with_types(alloc: Global, file: &[u8], marks: &[Mark<'_>]) -> Result<Vec<u8>, FileFault> {
+    let object = read(alloc, file)?;
+    typed(alloc, file, &object, marks)
 }
 
 /// Says that an object lacks what its debug sections refer to, by the fault of the changed source.

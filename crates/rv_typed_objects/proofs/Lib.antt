@@ -1,0 +1,2 @@
+-- Records of symbols, one after another.
+pub mod TypedLemmas

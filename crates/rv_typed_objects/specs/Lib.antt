@@ -1,0 +1,2 @@
+-- Files of objects whose symbols have types and sizes.
+pub mod Typed
