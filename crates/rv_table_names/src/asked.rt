@@ -2,12 +2,11 @@
 
 ghost use Rattle.std.specs.Prelude.{◌≡◌, true, IsTrue};
 ghost use Rattle.rv_map_laws.specs.Name.{is_name};
-ghost use Rattle.rv_object_laws.specs.Bindings.{is_weak};
 ghost use Rattle.rv_object_types.specs.Parts.{symbol_of};
-ghost use Rattle.rv_link_laws.specs.Names.{is_defined};
 ghost use Rattle.rv_table_names.specs.Tables as laws;
 
 use rv_labels::is_asked;
+use rv_names::{is_defined, is_weak};
 use rv_object_types::{Binding, Definition, Symbol};
 
 /// Whether a symbol is asked for: a label of its object's own, or else a definition of this binding.
@@ -23,29 +22,6 @@ pub(crate) fn is_wanted(binding: Binding, symbol: &Symbol<'_>) -> bool
         Binding::Weak => {
             is_asked(true, symbol) && is_weak(symbol.binding) && is_defined(symbol.definition)
         }
-    }
-}
-
-/// Whether another definition takes the place of one with this binding.
-fn is_weak(binding: Binding) -> bool
-    ensures { result ≡ is_weak binding }
-{
-    match binding {
-        Binding::Local => false,
-        Binding::Global => false,
-        Binding::Weak => true,
-    }
-}
-
-/// Whether an object defines this.
-fn is_defined(definition: Definition) -> bool
-    ensures { result ≡ is_defined definition }
-{
-    match definition {
-        Definition::Undefined => false,
-        Definition::Absolute(_) => true,
-        Definition::InSection(_, _) => true,
-        Definition::Skipped(_) => true,
     }
 }
 
