@@ -2,8 +2,8 @@
 
 usage: compare.py c_debuggers [--only TEXT] [--count N] [--jobs N] [--keep FOLDER] [--rv RV]
 
-There are 50 programs unless told otherwise: those of tests/against/c_debuggers, and then those that csmith draws from
-seed 1 on. GCC compiles each with -g at five levels, and the executables are made in three ways:
+There are 50 programs unless told otherwise: those of tests/against/c_debuggers, and then short ones that csmith draws.
+GCC compiles each with -g at five levels, and the executables are made in three ways:
 
   build    of GCC's assembly, without compressed code, of which GNU as has more: `rv build -g`
   objects  of the same by `rv as -g` and `rv ld -g`
@@ -44,6 +44,26 @@ GCC = [f"{GNU}gcc", *DEBUG.split(), *CODE.split(), f"-I{CSMITH}", "-I/usr/includ
 UNSIZED = ("objects", "linked")
 # Short programs: in a long one gdb may need half a minute for the places of one line, in GNU's executable too.
 DRAWN = "--no-argc --max-funcs 6 --max-block-depth 3 --max-block-size 3 --max-expr-complexity 6 -o program.c".split()
+# Those of these seeds end within 100,000 instructions, also at -O0.
+SEEDS = [
+    *range(1, 8),
+    9,
+    *range(12, 16),
+    17,
+    18,
+    *range(20, 26),
+    27,
+    28,
+    29,
+    31,
+    32,
+    33,
+    34,
+    37,
+    41,
+    42,
+    *range(44, 59),
+]
 FAR = "--defsym=__global_pointer$=0x70000000"
 REGIONS = ("text", "rodata", "data", "bss")
 # (the answers of a session take the longest)
@@ -207,7 +227,7 @@ def programs(count):
     for path in sorted(SOURCES.glob("*.[ch]")):
         groups.setdefault(path.stem.split("-")[0], {})[path.name] = path.read_text()
     yield from list(groups.items())[:count]
-    for seed in range(1, count - len(groups) + 1):
+    for seed in SEEDS[: max(0, count - len(groups))]:
         with tempfile.TemporaryDirectory() as name:
             if succeeds(["csmith", "--seed", seed, *DRAWN], cwd=name):
                 yield f"csmith {seed}", {"program.c": (Path(name) / "program.c").read_text()}

@@ -12,9 +12,9 @@ from pathlib import Path
 import gdb
 
 MARK, END = "<<< ", "the end"
-# The most instructions of the program, and of one that goes by lines, for which gdb steps through each instruction; the
-# most stops in functions and at lines, and about how many lines have one.
-LIMIT, FEW, FUNCTIONS, LINES, POINTS = 2_000_000, 10_000, 25, 12, 120
+# The most instructions of the program, which none reaches: there `next` would not end. The most stops in functions and at
+# lines, and about how many lines have one.
+LIMIT, FUNCTIONS, LINES, POINTS = 1_000_000, 25, 12, 120
 # A function and a variable, with the line that declares it: GNU as has none for those of assembly, and rv not these.
 FUNCTION, VARIABLE = r"\d+:\t.*?(\w+)\(", r"\d+:\t.*?(\w+)\)?(?:\[\d*\])*(?:\(.*\))?;$"
 AT_STOP = ("backtrace 12", "info args", "info locals")
@@ -118,7 +118,7 @@ def main():
     if is_alive():
         gdb.execute("disconnect")
     ask(remote)
-    ask(f"monitor limit {FEW}")
+    ask(f"monitor limit {LIMIT}")
     ask_of_lines()
     print(f"{MARK}{END}")
 
