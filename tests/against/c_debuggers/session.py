@@ -12,8 +12,8 @@ from pathlib import Path
 import gdb
 
 MARK, END = "<<< ", "the end"
-# The most instructions of the program, which none reaches: there `next` would not end. The most stops in functions and at
-# lines, and about how many lines have one.
+# The most instructions of the program, which none reaches, as `next` would not end there; the most stops in functions
+# and at lines, and about how many lines have one.
 LIMIT, FUNCTIONS, LINES, POINTS = 1_000_000, 25, 12, 120
 # A function and a variable, with the line that declares it: GNU as has none for those of assembly, and rv not these.
 FUNCTION, VARIABLE = r"\d+:\t.*?(\w+)\(", r"\d+:\t.*?(\w+)\)?(?:\[\d*\])*(?:\(.*\))?;$"
