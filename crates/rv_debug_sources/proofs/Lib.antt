@@ -4,3 +4,7 @@ pub mod HeadersLemmas
 pub mod Leb128Lemmas
 -- A source with its edits, one after another.
 pub mod EditsLemmas
+-- Rows, directories and files, one after another.
+pub mod LinesLemmas
+-- The last token of a source.
+pub mod LastLemmas

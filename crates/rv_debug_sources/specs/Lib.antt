@@ -2,6 +2,10 @@
 pub mod Names
 -- Numbers of any size as operands of `.byte`: seven seven_bits a byte, the low ones first.
 pub mod Leb128
+-- Lines that a source says of its code, by the tokens of its statements.
+pub mod Lines
+-- The line table of what a source says of lines, as statements behind its last one.
+pub mod LineText
 -- How a source is changed, so that what debug sections refer to is kept.
 pub mod Sources
 -- Objects and files whose debug sections are not loaded.

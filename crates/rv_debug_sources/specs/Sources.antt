@@ -1,6 +1,7 @@
 -- How a source is changed, so that what debug sections refer to is kept: each statement that opens
--- one has the flag `a`, LEB128 numbers are bytes, and all else is the source's (GNU as,
--- "Statements", ".section", ".uleb128", ".sleb128").
+-- one has the flag `a`, LEB128 numbers are bytes, `.loc` is a label, `.file N` is nothing, a label
+-- stands where a section with such rows is left, and all else is the source's; behind it stands the
+-- line table (GNU as, "Statements", ".section", ".uleb128", ".sleb128", ".loc", ".file").
 
 use Rattle.std.specs.Prelude.{ℕ, ◌+◌, ◌-◌, ◌^◌, ◌==◌, nat_lt, nat_le, Bool, true, false, ◌&&◌, ◌||◌, List, [], ◌∷◌, ◌++◌, length, take, drop, codes, bytes_eq, Option, Some, None, option_map, option_and_then, slice_get, if◌then◌else◌}
 use Rattle.std.specs.List.{list_any}
@@ -9,30 +10,50 @@ use Rattle.rv_expression_laws.specs.Grammar.{Kind, Name, Text}
 use Rattle.rv_expression_laws.specs.Lexing.{Token}
 use Rattle.rv_debug_laws.specs.Marks.{token_number, is_comma, is_minus, ends_statement, is_colon}
 use Rattle.rv_debug_sources.specs.declared.edit.Change.{Change}
-use Rattle.rv_debug_sources.specs.declared.edit.Change.TheVariants.{Flag, Flags, Unsigned, Signed}
+use Rattle.rv_debug_sources.specs.declared.edit.Change.TheVariants.{Flag, Flags, Unsigned, Signed, RowLabel, EndLabel, Nothing}
 use Rattle.rv_debug_sources.specs.declared.edit.Edit.{Edit}
 use Rattle.rv_debug_sources.specs.declared.edit.Statement.{Statement}
-use Rattle.rv_debug_sources.specs.declared.edit.Statement.TheVariants.{Kept, Changed, Loading}
+use Rattle.rv_debug_sources.specs.declared.edit.Statement.TheVariants.{Kept, Changed, Loading, Named, Placed}
+use Rattle.rv_debug_sources.specs.declared.line.SaidFile.{SaidFile}
+use Rattle.rv_debug_sources.specs.declared.line.LineRow.{LineRow}
 use Rattle.rv_debug_sources.specs.Leb128.{unsigned_text, signed_text}
 use Rattle.rv_debug_sources.specs.Names.{is_debug_name}
+use Rattle.rv_debug_sources.specs.Lines as lines
+use Rattle.rv_debug_sources.specs.Lines.{Said, nothing_said, file_said, may_stand, with_file, row_said, enters_section}
+use Rattle.rv_debug_sources.specs.LineText.{part, with_label, row_front, end_front, with_table}
 
 -- ---- what edits make of a source
 
-abbrev pub text_of_change : Change → List ℕ
-text_of_change Flag = codes "a"
-text_of_change Flags = codes ",\"a\""
-text_of_change (Unsigned number) = codes ".byte " ++ unsigned_text 10 number
-text_of_change (Signed negative size) = codes ".byte " ++ signed_text 10 negative size
+-- what a plain source has none of: flags, and labels of lines
+abbrev pub is_mark : Change → Bool
+is_mark (Unsigned number) = false
+is_mark (Signed negative size) = false
+is_mark _ = true
 
--- the bytes from one offset to another
-abbrev pub part : (from to : ℕ) → List ℕ → List ℕ
-part from to bytes = take (to - from) (drop from bytes)
+-- a text with a change behind it
+abbrev pub with_change : List ℕ → Change → List ℕ
+with_change text Flag = text ++ codes "a"
+with_change text Flags = text ++ codes ",\"a\""
+with_change text (Unsigned number) = text ++ (codes ".byte " ++ unsigned_text 10 number)
+with_change text (Signed negative size) = text ++ (codes ".byte " ++ signed_text 10 negative size)
+with_change text (RowLabel at) = with_label text row_front at ++ codes ":"
+with_change text (EndLabel at) = with_label text end_front at ++ codes ": "
+with_change text Nothing = text
 
--- a source from an offset on, with these edits: the bytes of each give way to its text
-abbrev pub edited : (source : List ℕ) (at : ℕ) → List Edit → List ℕ
-edited source at [] = drop at source
-edited source at (e ∷ es) =
-    part at e.start source ++ (text_of_change e.change ++ edited source e.stop es)
+abbrev pub with_change_in : (is_plain : Bool) → List ℕ → Change → List ℕ
+with_change_in is_plain text change =
+    if is_plain && is_mark change then text else with_change text change
+
+-- a text with a source from an offset on behind it, but these edits: the bytes of each give way
+abbrev pub with_edited :
+    (is_plain : Bool) (source text : List ℕ) (at : ℕ) → List Edit → List ℕ
+with_edited is_plain source text at [] = text ++ drop at source
+with_edited is_plain source text at (e ∷ es) =
+    with_edited is_plain source
+    (with_change_in is_plain (text ++ part at e.start source) e.change) e.stop es
+
+abbrev pub edited : (is_plain : Bool) (source : List ℕ) → List Edit → List ℕ
+edited is_plain source es = with_edited is_plain source [] 0 es
 
 -- ---- a statement, by its tokens
 
@@ -108,13 +129,44 @@ signed_in ts =
     else if (length ts == 3) && is_minus (kind_in (slice_get ts 1))
     then replaced ts 2 (option_and_then below (token_number (kind_in (slice_get ts 2)))) else Kept
 
-abbrev pub statement_in : List Token → Statement
-statement_in ts =
+-- `.file N`, and `.loc`
+abbrev pub named : Statement → SaidFile → Statement
+named (Changed edit) f = Named edit f
+named _ f = Kept
+
+abbrev pub placed : Statement → LineRow → Statement
+placed (Changed edit) row = Placed edit row
+placed _ row = Kept
+
+-- a row's label stands in its place
+abbrev pub change_of_row : LineRow → Change
+change_of_row row = if row.line == 0 then Nothing else RowLabel row.at
+
+abbrev pub whole : List Token → Change → Statement
+whole ts change = replaced ts (length ts - 1) (Some change)
+
+abbrev pub named_by : Said → List Token → Option SaidFile → Statement
+named_by said ts None = Kept
+named_by said ts (Some f) = if may_stand said f then named (whole ts Nothing) f else Kept
+
+abbrev pub placed_by : List Token → Option LineRow → Statement
+placed_by ts None = Kept
+placed_by ts (Some row) = placed (whole ts (change_of_row row)) row
+
+abbrev pub placed_at : Said → List Token → Option Token → Statement
+placed_at said ts None = Kept
+placed_at said ts (Some t) = placed_by ts (row_said said t.start (drop 1 ts))
+
+abbrev pub statement_in : Said → List Token → Statement
+statement_in said ts =
     if is_this_word (codes ".section") (kind_in (slice_get ts 0))
     && is_debug (kind_in (slice_get ts 1))
     then opening_in ts
     else if is_this_word (codes ".uleb128") (kind_in (slice_get ts 0)) then unsigned_in ts
-    else if is_this_word (codes ".sleb128") (kind_in (slice_get ts 0)) then signed_in ts else Kept
+    else if is_this_word (codes ".sleb128") (kind_in (slice_get ts 0)) then signed_in ts
+    else if is_this_word (codes ".file") (kind_in (slice_get ts 0))
+    then named_by said ts (file_said ts)
+    else if is_this_word (codes ".loc") (kind_in (slice_get ts 0)) then placed_at said ts (slice_get ts 0) else Kept
 
 -- ---- the statements of a source, from its tokens
 
@@ -123,32 +175,83 @@ abbrev pub closes_label : List Token → Kind → Bool
 closes_label ts kind = (length ts == 1) && is_colon kind
 
 -- the statements among tokens, where these of the first stand before
-abbrev pub statements_from : List Token → List Token → List Statement
+abbrev pub statements_from : List Token → List Token → List (List Token)
 statements_from begun [] = []
 statements_from begun (t ∷ ts) =
-    if ends_statement t.kind then statement_in begun ∷ statements_from [] ts
+    if ends_statement t.kind then begun ∷ statements_from [] ts
     else if closes_label begun t.kind then statements_from [] ts
     else statements_from (begun ++ t ∷ []) ts
 
-abbrev pub statements_of : List ℕ → List Statement
+abbrev pub statements_of : List ℕ → List (List Token)
 statements_of source = statements_from [] (tokens_from 0 1 source)
+
+-- ---- what is read of statements
+
+-- the edits, whether a debug section may be loaded, and what is said of lines
+pub record Read : Type 0 where
+  pub edits : List Edit
+  pub loads : Bool
+  pub said : Said
+
+abbrev pub with_edit : Read → Edit → Said → Read
+with_edit r edit said = record r { edits = r.edits ++ edit ∷ []; said = said }
+
+abbrev pub with_statement : Read → Statement → Read
+with_statement r Kept = r
+with_statement r (Changed edit) = with_edit r edit r.said
+with_statement r Loading = record r { loads = true }
+with_statement r (Named edit f) = with_edit r edit (with_file r.said f f.directory)
+with_statement r (Placed edit row) = with_edit r edit (lines.with_row r.said row)
+
+abbrev pub end_edit : (at : ℕ) → Edit
+end_edit at = record { start = at; stop = at; change = EndLabel at }
+
+-- where a section is left behind rows, a label in front of the statement ends them
+abbrev pub ended_at : Read → (at : ℕ) → Read
+ended_at r at = with_edit r (end_edit at) (lines.with_end r.said at)
+
+abbrev pub left_at : Read → (first : Option Token) → Option ℕ
+left_at r None = None
+left_at r (Some t) = if r.said.is_open && enters_section t.kind then Some t.start else None
+
+abbrev pub ended_by : Read → Option ℕ → Read
+ended_by r None = r
+ended_by r (Some at) = ended_at r at
+
+abbrev pub ended : Read → (first : Option Token) → Read
+ended r first = ended_by r (left_at r first)
+
+abbrev pub read_next : Read → List Token → Read
+read_next r ts = with_statement (ended r (slice_get ts 0)) (statement_in r.said ts)
+
+abbrev pub read_all : Read → List (List Token) → Read
+read_all r [] = r
+read_all r (ts ∷ more) = read_all (read_next r ts) more
+
+abbrev pub nothing_read : Read
+nothing_read = record { edits = []; loads = false; said = nothing_said }
+
+abbrev pub read_of : List ℕ → Read
+read_of source = read_all nothing_read (statements_of source)
 
 -- ---- the changed source
 
-abbrev pub is_loading : Statement → Bool
-is_loading Loading = true
-is_loading _ = false
-
-abbrev pub edits_in : List Statement → List Edit
-edits_in [] = []
-edits_in (Changed edit ∷ more) = edit ∷ edits_in more
-edits_in (_ ∷ more) = edits_in more
-
 -- none where nothing is changed, or where the source itself has a debug section loaded
-abbrev pub changed_by : (source : List ℕ) → List Statement → Option (List ℕ)
-changed_by source statements =
-    if list_any is_loading statements || (length (edits_in statements) == 0) then None
-    else Some (edited source 0 (edits_in statements))
+abbrev pub is_kept : Read → Bool
+is_kept r = r.loads || (length r.edits == 0)
+
+abbrev pub changed_by : (source : List ℕ) → Read → Option (List ℕ)
+changed_by source r =
+    if is_kept r then None
+    else Some (with_table source (edited false source r.edits) r.said)
 
 abbrev pub changed : List ℕ → Option (List ℕ)
-changed source = changed_by source (statements_of source)
+changed source = changed_by source (read_of source)
+
+-- ---- the plain source: of these changes only LEB128 numbers are bytes, and nothing says lines
+
+abbrev pub plain_by : (source : List ℕ) → Read → Option (List ℕ)
+plain_by source r = if is_kept r then None else Some (edited true source r.edits)
+
+abbrev pub plain : List ℕ → Option (List ℕ)
+plain source = plain_by source (read_of source)

@@ -33,7 +33,7 @@ pub(crate) fn put_signed_bytes(
 }
 
 /// Adds an unsigned number.
-fn put_unsigned(text: &mut Vec<u8>, number: u64) -> Result<(), AllocError>
+pub(crate) fn put_unsigned(text: &mut Vec<u8>, number: u64) -> Result<(), AllocError>
     ensures { OnOk result (text.new.items ≡ text.old.items ++ laws.unsigned_text 10 number) }
 {
     let mut rest = number;
@@ -51,7 +51,7 @@ fn put_unsigned(text: &mut Vec<u8>, number: u64) -> Result<(), AllocError>
 }
 
 /// Adds a signed number: a size, or, if it is negative, the number that much below -1.
-fn put_signed(text: &mut Vec<u8>, negative: bool, size: u64) -> Result<(), AllocError>
+pub(crate) fn put_signed(text: &mut Vec<u8>, negative: bool, size: u64) -> Result<(), AllocError>
     ensures { OnOk result (text.new.items ≡ text.old.items ++ laws.signed_text 10 negative size) }
 {
     let mut rest = size;
@@ -96,21 +96,21 @@ fn seven_bits(negative: bool, size: u8) -> u8
 }
 
 /// Adds a byte.
-fn put_byte(text: &mut Vec<u8>, byte: u8) -> Result<(), AllocError>
+pub(crate) fn put_byte(text: &mut Vec<u8>, byte: u8) -> Result<(), AllocError>
     ensures { OnOk result (text.new.items ≡ text.old.items ++ laws.byte_text byte) }
 {
     text.extend_from_slice(&[b'0', b'x', digit(byte / 16), digit(byte % 16)])
 }
 
 /// Adds a byte and a comma.
-fn put_part(text: &mut Vec<u8>, byte: u8) -> Result<(), AllocError>
+pub(crate) fn put_part(text: &mut Vec<u8>, byte: u8) -> Result<(), AllocError>
     ensures { OnOk result (text.new.items ≡ text.old.items ++ laws.part_text byte) }
 {
     text.extend_from_slice(&[b'0', b'x', digit(byte / 16), digit(byte % 16), b','])
 }
 
 /// A hexadecimal digit.
-fn digit(number: u8) -> u8
+pub(crate) fn digit(number: u8) -> u8
     requires { number < 16 }
     ensures { result ≡ laws.digit number }
 {

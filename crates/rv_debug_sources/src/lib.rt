@@ -7,6 +7,11 @@
 //! ([`without_debug_rows`]), and in its file they lose the flag again ([`unloaded`]): the file has what it has without this,
 //! and the relocations of these sections.
 //!
+//! Lines that a source says of its code by `.file N` and `.loc` become a line table, which stands as data behind its last line:
+//! `.loc` gives way to a label in its line, and the table says the label's address by a relocation. So it holds wherever the
+//! linker puts the code, and the language knows neither directive. [`plain_source`] is the source without lines, which is what
+//! a build loads.
+//!
 //! It knows neither what the sections mean nor where statements stand.
 //!
 //! ```text
@@ -16,20 +21,27 @@
 //! // .8byte f
 //! ```
 //!
-//! Source: GNU as, "Statements", ".section", ".uleb128", ".sleb128"; DWARF 5, 7.6 "Variable Length Data"; System V gABI,
-//! "Sections".
+//! Source: GNU as, "Statements", ".section", ".file", ".loc", ".uleb128", ".sleb128"; DWARF 5, 6.2 "Line Number Information",
+//! 7.6 "Variable Length Data"; System V gABI, "Sections".
 #![tactic(auto)]
 
 mod edit;
 mod file;
+mod header;
+mod label;
 mod leb128;
+mod line;
+mod loc;
 mod name;
 mod object;
+mod program;
+mod said;
 mod source;
 mod statement;
+mod table;
 mod tokens;
 
 pub use edit::{Change, Edit};
 pub use file::unloaded;
 pub use object::without_debug_rows;
-pub use source::changed_source;
+pub use source::{changed_source, plain_source};

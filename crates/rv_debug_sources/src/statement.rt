@@ -1,16 +1,19 @@
 //! A statement, by its tokens.
 
-ghost use Rattle.std.specs.Prelude.{◌≡◌, map, option_and_then, slice_get};
+ghost use Rattle.std.specs.Prelude.{◌≡◌, Some, drop, map, option_and_then, slice_get};
 ghost use Rattle.rv_lexer.specs.Token.{kind_of, string_bytes, token_of};
+ghost use Rattle.rv_debug_sources.specs.Reading.{said_of};
 ghost use Rattle.rv_debug_sources.specs.Sources as laws;
 
 use crate::edit::{Change, Edit, Statement};
+use crate::line::{LineRow, SaidFile};
+use crate::said::{Lines, file_said};
 use crate::tokens::{is_comma_at, is_debug_at, is_minus_at, is_word_at, number_at};
 use rv_lexer::{Token, TokenKind, string_contains};
 
 /// What becomes of a statement.
-pub(crate) fn statement_in(tokens: &[Token<'_>]) -> Statement
-    ensures { result ≡ laws.statement_in (map token_of tokens.now) }
+pub(crate) fn statement_in(lines: &Lines, tokens: &[Token<'_>]) -> Statement
+    ensures { result ≡ laws.statement_in (said_of lines.now) (map token_of tokens.now) }
 {
     if is_word_at(tokens, 0, b".section") && is_debug_at(tokens, 1) {
         return opening_in(tokens);
@@ -21,7 +24,96 @@ pub(crate) fn statement_in(tokens: &[Token<'_>]) -> Statement
     if is_word_at(tokens, 0, b".sleb128") {
         return signed_in(tokens);
     }
+    if is_word_at(tokens, 0, b".file") {
+        return named_by(lines, tokens, file_said(tokens));
+    }
+    if is_word_at(tokens, 0, b".loc") {
+        return placed_at(lines, tokens);
+    }
     Statement::Kept
+}
+
+/// What becomes of `.file`, which names a file.
+fn named_by(lines: &Lines, tokens: &[Token<'_>], file: Option<SaidFile>) -> Statement
+    ensures { result ≡ laws.named_by (said_of lines.now) (map token_of tokens.now) file }
+{
+    match file {
+        Some(file) => named_as(lines, tokens, file),
+        None => Statement::Kept,
+    }
+}
+
+fn named_as(lines: &Lines, tokens: &[Token<'_>], file: SaidFile) -> Statement
+    ensures { result ≡ laws.named_by (said_of lines.now) (map token_of tokens.now) (Some file) }
+{
+    if lines.may_stand(&file) {
+        return named(whole(tokens, Change::Nothing), file);
+    }
+    Statement::Kept
+}
+
+/// A changed statement names a file.
+fn named(statement: Statement, file: SaidFile) -> Statement
+    ensures { result ≡ laws.named statement file }
+{
+    match statement {
+        Statement::Changed(edit) => Statement::Named(edit, file),
+        _ => Statement::Kept,
+    }
+}
+
+/// What becomes of `.loc`.
+fn placed_at(lines: &Lines, tokens: &[Token<'_>]) -> Statement
+    ensures { result ≡ laws.placed_at (said_of lines.now) (map token_of tokens.now)
+        (slice_get (map token_of tokens.now) 0) }
+{
+    match tokens.get(0) {
+        Some(first) => placed_by(tokens, lines.row_said(first.start, operands(tokens))),
+        None => Statement::Kept,
+    }
+}
+
+/// The tokens behind the first.
+fn operands<'a>(tokens: &'a [Token<'a>]) -> &'a [Token<'a>]
+    ensures { map token_of result.now ≡ drop 1 (map token_of tokens.now) }
+{
+    tokens.get(1..).unwrap_or(&[])
+}
+
+fn placed_by(tokens: &[Token<'_>], row: Option<LineRow>) -> Statement
+    ensures { result ≡ laws.placed_by (map token_of tokens.now) row }
+{
+    match row {
+        Some(row) => placed(whole(tokens, change_of_row(&row)), row),
+        None => Statement::Kept,
+    }
+}
+
+/// A changed statement is a row.
+fn placed(statement: Statement, row: LineRow) -> Statement
+    ensures { result ≡ laws.placed statement row }
+{
+    match statement {
+        Statement::Changed(edit) => Statement::Placed(edit, row),
+        _ => Statement::Kept,
+    }
+}
+
+/// The label of a row, if it is of a line.
+fn change_of_row(row: &LineRow) -> Change
+    ensures { result ≡ laws.change_of_row row.now }
+{
+    if row.line == 0 {
+        return Change::Nothing;
+    }
+    Change::RowLabel(row.at)
+}
+
+/// A whole statement gives way to a text.
+fn whole(tokens: &[Token<'_>], change: Change) -> Statement
+    ensures { result ≡ laws.whole (map token_of tokens.now) change }
+{
+    replaced_by(tokens, tokens.len().saturating_sub(1), change)
 }
 
 /// What becomes of the statement that opens a debug section.

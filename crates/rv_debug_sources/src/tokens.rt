@@ -3,8 +3,10 @@
 ghost use Rattle.std.specs.Prelude.{◌≡◌, Some, map, slice_get};
 ghost use Rattle.rv_lexer.specs.Token.{kind_of, token_of};
 ghost use Rattle.rv_debug_laws.specs.Marks as marks;
+ghost use Rattle.rv_debug_sources.specs.Lines as lines;
 ghost use Rattle.rv_debug_sources.specs.Sources as laws;
 
+use crate::line::SourcePart;
 use crate::name::is_debug_name;
 use rv_lexer::{Punct, Token, TokenKind};
 
@@ -112,4 +114,49 @@ pub(crate) fn is_colon(kind: TokenKind<'_>) -> bool
     ensures { result ≡ marks.is_colon (kind_of kind.entry) }
 {
     matches!(kind, TokenKind::Punct(Punct::Colon))
+}
+
+/// A number, if it has 32 bits.
+pub(crate) fn small(number: u64) -> Option<u64>
+    ensures { result ≡ lines.small number }
+{
+    if number < 1 << 32 { Some(number) } else { None }
+}
+
+/// The number of 32 bits that stands at an index.
+pub(crate) fn small_at(tokens: &[Token<'_>], index: usize) -> Option<u64>
+    ensures { result ≡ lines.small_number (slice_get (map token_of tokens.now) index) }
+{
+    match tokens.get(index) {
+        Some(token) => small_in(token.kind),
+        None => None,
+    }
+}
+
+fn small_in(kind: TokenKind<'_>) -> Option<u64>
+    ensures { result ≡ lines.small_in (kind_of kind.entry) }
+{
+    match kind {
+        TokenKind::Number(_, number) => small(number),
+        _ => None,
+    }
+}
+
+/// The string that stands at an index, with its quotes.
+pub(crate) fn quoted_at(tokens: &[Token<'_>], index: usize) -> Option<SourcePart>
+    ensures { result ≡ lines.quoted (slice_get (map token_of tokens.now) index) }
+{
+    match tokens.get(index) {
+        Some(token) if is_text(token.kind) => Some(SourcePart {
+            start: token.start,
+            stop: token.stop,
+        }),
+        _ => None,
+    }
+}
+
+fn is_text(kind: TokenKind<'_>) -> bool
+    ensures { result ≡ lines.is_text (kind_of kind.entry) }
+{
+    matches!(kind, TokenKind::Text(_))
 }

@@ -1,9 +1,9 @@
 use Rattle.std.proofs.Common.{◌∙◌, false, [], map, length, ap, sym, arith}
 use Rattle.rv_lexer.specs.Cursor.{remaining}
 use Rattle.rv_lexer.specs.Token.{token_of}
-use Rattle.rv_debug_sources.specs.Reading.{found_with, with_found}
-use Rattle.rv_debug_sources.specs.Sources.{statements_from}
-use Rattle.rv_marks.proofs.MarksLemmas.{last_one}
+use Rattle.rv_debug_sources.specs.Reading.{found_with}
+use Rattle.rv_debug_sources.specs.Sources.{nothing_read, read_all, statements_from}
+use Rattle.rv_debug_sources.proofs.LastLemmas.{last_one}
 use Rattle.rv_debug_sources.proofs.source.read.Goals as goal
 
 pub loop-reader-preserved : goal.loop-reader-preserved
@@ -20,5 +20,6 @@ returns c = λ short.
     c.in_ok-take-2.ensures []
     ∙ ap (found_with c.loop-reader.reader) (sym (last_one c.loop-reader.cursor ended))
     ∙ c.loop-reader.invariant
-    ∙ (λ i. with_found (c.new-2.ensures.items i) false (statements_from (map token_of (c.new-3.ensures.items i)) (remaining c.new-cursor.result)))
-    ∙ ap (λ ts. with_found [] false (statements_from [] ts)) (c.new-cursor.ensures ∙ c.new.ensures.whole short)
+    ∙ (λ i. read_all (record { edits = c.new-2.ensures.items i; loads = false; said = c.new-3.ensures i })
+    (statements_from (map token_of (c.new-4.ensures.items i)) (remaining c.new-cursor.result)))
+    ∙ ap (λ ts. read_all nothing_read (statements_from [] ts)) (c.new-cursor.ensures ∙ c.new.ensures.whole short)
