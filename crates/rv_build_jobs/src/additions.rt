@@ -1,5 +1,6 @@
 //! Sources of the program's own, behind those that the words name.
 
+use crate::debug_objects::plain_texts;
 use crate::defining::{self, Definitions};
 use crate::padding;
 use rv_chain::assemble_object;
@@ -49,28 +50,48 @@ pub(crate) fn padded(alloc: Global, is_wanted: bool) -> Result<Option<Addition>,
     }))
 }
 
+/// Texts without what says lines, for debuggers; none where it is not for these.
+fn plain_inputs(
+    alloc: Global,
+    texts: &[Vec<u8>],
+    is_debug: bool,
+) -> Result<Vec<Vec<u8>>, AllocError> {
+    if !is_debug {
+        return Ok(Vec::new(alloc));
+    }
+    let texts = borrowed(alloc, texts)?;
+    plain_texts(alloc, texts.as_slice())
+}
+
 /// The sources of a build, in their order.
 #[derive(Drop)]
 pub(crate) struct Inputs<'a> {
     /// Their names, as messages show them.
     names: Vec<&'a str>,
     texts: Vec<Vec<u8>>,
+    /// The texts of the first ones without what says lines, if that is for debuggers.
+    plain: Vec<Vec<u8>>,
     /// How many of them the words name; behind them stands what defines names.
     files: usize,
 }
 
 impl<'a> Inputs<'a> {
-    /// Reads these files in their order; behind them come what defines names, and the padding where it is wanted.
+    /// Reads these files in their order, for debuggers or not; behind them come what defines names, and the padding where it
+    /// is wanted.
     pub(crate) fn read<S: System>(
         system: &mut S,
         files: &'a [&'a str],
         definitions: &Definitions<'_>,
         is_padded: bool,
+        is_debug: bool,
     ) -> Result<Self, JobError> {
         let alloc: Global = system.alloc();
+        let texts = files_bytes(system, files)?;
+        let plain = plain_inputs(alloc, texts.as_slice(), is_debug)?;
         let mut inputs = Inputs {
             names: Vec::from_slice(alloc, files)?,
-            texts: files_bytes(system, files)?,
+            texts,
+            plain,
             files: files.len(),
         };
         inputs.add(defined(alloc, definitions)?)?;
@@ -99,8 +120,17 @@ impl<'a> Inputs<'a> {
         self.names.as_slice()
     }
 
-    /// The texts of all.
-    pub(crate) fn texts(&self, alloc: Global) -> Result<Vec<&[u8]>, AllocError> {
+    /// The texts of all, as they were read.
+    pub(crate) fn sources(&self, alloc: Global) -> Result<Vec<&[u8]>, AllocError> {
         borrowed(alloc, self.texts.as_slice())
+    }
+
+    /// The texts of all, of which the program is built.
+    pub(crate) fn texts(&self, alloc: Global) -> Result<Vec<&[u8]>, AllocError> {
+        let mut texts = borrowed(alloc, self.plain.as_slice())?;
+        for text in self.texts.iter().skip(self.plain.len()) {
+            texts.push(text.as_slice())?;
+        }
+        Ok(texts)
     }
 }

@@ -4,10 +4,10 @@
 
 use crate::additions::Inputs;
 use crate::carrying::{addresses_of, lines_of, with_sections};
-use crate::debug_objects::{object_for_debuggers, objects_of_sources};
+use crate::debug_objects::{object_for_debuggers, objects_of_sources, plain_texts};
 use crate::debugging::{debugged, file_objects, paths_of_names, source_objects};
 use crate::defining::Definitions;
-use crate::files::{linked_files, object_files};
+use crate::files::{LinkFile, linked_files, object_files};
 use crate::linking::link_inputs;
 use crate::loading::{given_sources, is_elf};
 use crate::refusing::{is_explained, program_image, refused_sources};
@@ -116,6 +116,7 @@ pub fn build_files<S: System>(system: &mut S, asked: &AskedBuild<'_>) -> Result<
         asked.sources.as_slice(),
         asked.definitions.as_slice(),
         asked.settings,
+        asked.outputs.debug,
     )?;
     build_inputs(system, asked.outputs, asked.settings, &inputs)
 }
@@ -138,7 +139,7 @@ fn build_with_archives<S: System>(system: &mut S, asked: &AskedBuild<'_>) -> Res
         asked.settings.pads_ends,
     )?;
     let sources = borrowed(alloc, read.as_slice())?;
-    let mut files = object_files(system, names, sources.as_slice(), asked.settings.explains)?;
+    let mut files = source_files(system, asked, names, sources.as_slice())?;
     files.append(&mut behind)?;
     link_inputs(
         system,
@@ -148,6 +149,22 @@ fn build_with_archives<S: System>(system: &mut S, asked: &AskedBuild<'_>) -> Res
         &mut definitions,
         &mut files,
     )
+}
+
+/// The objects of sources that are built with archives: for debuggers, those of the sources without what says lines.
+fn source_files<S: System>(
+    system: &S,
+    asked: &AskedBuild<'_>,
+    names: &[&str],
+    sources: &[&[u8]],
+) -> Result<Vec<LinkFile>, JobError> {
+    if !asked.outputs.debug {
+        return object_files(system, names, sources, asked.settings.explains);
+    }
+    let alloc: Global = system.alloc();
+    let plain = plain_texts(alloc, sources)?;
+    let texts = borrowed(alloc, plain.as_slice())?;
+    object_files(system, names, texts.as_slice(), asked.settings.explains)
 }
 
 /// Builds sources and writes what is asked for of it; the exit status.
@@ -221,7 +238,8 @@ fn build_for_debuggers<S: System>(
     )?;
     let described = source_objects(alloc, names, sources.as_slice())?;
     let paths = paths_of_names(alloc, names)?;
-    let files = objects_of_sources(system, names, sources.as_slice())?;
+    let written = inputs.sources(alloc)?;
+    let files = objects_of_sources(system, names, written.as_slice())?;
     let files = borrowed(alloc, files.as_slice())?;
     let objects = file_objects(alloc, names, files.as_slice())?;
     let addresses = addresses_of(
@@ -270,6 +288,7 @@ pub fn print_map<S: System>(system: &mut S, asked: &AskedMap<'_>) -> Result<u8, 
         asked.sources.as_slice(),
         asked.definitions.as_slice(),
         asked.settings,
+        false,
     )?;
     let built = build_with_map(system, &inputs, asked.settings)?;
     print(system, built.map.as_slice())?;

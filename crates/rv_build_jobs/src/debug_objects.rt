@@ -4,14 +4,14 @@
 //! were, and the object loses that again (`rv_debug_sources`). A fault is always one of the source itself: where it is the
 //! changed source that is refused, debug sections stay without references, and a line says so.
 //!
-//! A build loads what the sources are as they stand. Its changed ones give the addresses of their symbols and debug sections
+//! A build loads what the sources are without their lines (`plain_source`). Its changed ones give the addresses of their symbols and debug sections
 //! alone, so what these refer to cannot change the image, nor ask archives for a member.
 
 use crate::building::{assembled, without_relaxation};
 use crate::debugging::named_object;
 use rv_assemble::{SourceFault, assemble};
 use rv_chain::Fault;
-use rv_debug_sources::{changed_source, unloaded, without_debug_rows};
+use rv_debug_sources::{changed_source, plain_source, unloaded, without_debug_rows};
 use rv_fault::FileFault;
 use rv_marks::{Mark, marks};
 use rv_object_reader::read;
@@ -43,7 +43,8 @@ pub(crate) fn object_for_debuggers<S: System>(
         }
         Err(SourceFault::OutOfMemory) => Err(JobError::Memory),
         Err(fault) => {
-            let file = plain_object(system, name, text, relax, explains)?;
+            let plain = plain_text(alloc, text)?;
+            let file = plain_object(system, name, plain.as_slice(), relax, explains)?;
             warn_of_plain(system, name, fault)?;
             typed_object(alloc, name, file.as_slice(), text, relax)
         }
@@ -68,6 +69,23 @@ pub(crate) fn objects_of_sources<S: System>(
     Ok(files)
 }
 
+/// Sources without what says lines, which only debug sections have.
+pub(crate) fn plain_texts(alloc: Global, sources: &[&[u8]]) -> Result<Vec<Vec<u8>>, AllocError> {
+    let mut texts: Vec<Vec<u8>> = Vec::new(alloc);
+    for source in sources {
+        texts.push(plain_text(alloc, source)?)?;
+    }
+    Ok(texts)
+}
+
+/// A source without what says lines.
+fn plain_text(alloc: Global, source: &[u8]) -> Result<Vec<u8>, AllocError> {
+    match plain_source(alloc, source)? {
+        Some(plain) => Ok(plain),
+        None => Vec::from_slice(alloc, source),
+    }
+}
+
 /// Whether one of these sources has debug sections of its own.
 fn is_any_changed(alloc: Global, sources: &[&[u8]]) -> Result<bool, AllocError> {
     for source in sources {
@@ -78,7 +96,7 @@ fn is_any_changed(alloc: Global, sources: &[&[u8]]) -> Result<bool, AllocError> 
     Ok(false)
 }
 
-/// The file of the object of a source as it is, with its name.
+/// The file of the object of a source, with its name.
 fn plain_object<S: System>(
     system: &S,
     name: &str,

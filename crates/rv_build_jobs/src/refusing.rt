@@ -2,6 +2,7 @@
 //!
 //! What explains a fault is looked for only once there is one, so a good build pays nothing for it.
 
+use crate::debug_objects::plain_texts;
 use rv_archive::{ArchiveFault, fault_name, fault_number};
 use rv_chain::{Fault, GroundOptions, LinkFault};
 use rv_check::remark_of;
@@ -9,7 +10,7 @@ use rv_fault_texts::Remark;
 use rv_image::{Image, load};
 use rv_job::{Asked, LinkSettings};
 use rv_object_report::{objects_remark, put_header};
-use rv_system::{JobError, System, fault_line, image_in};
+use rv_system::{JobError, System, borrowed, fault_line, image_in};
 use std::alloc::{AllocError, Global};
 
 /// Why a build of sources is refused; `explains` says whether the words ask for more than the line of the fault.
@@ -74,7 +75,9 @@ fn link_remark(
     if sources.is_empty() {
         return objects_remark(alloc, names, objects, fault, options);
     }
-    let mut said = remark_of(alloc, names, sources, fault, options)?;
+    let plain = plain_texts(alloc, sources)?;
+    let texts = borrowed(alloc, plain.as_slice())?;
+    let mut said = remark_of(alloc, names, texts.as_slice(), fault, options)?;
     if said.spot.is_none() {
         let placed = objects_remark(alloc, names, objects, fault, options)?;
         if placed.excerpt.is_empty() && !said.sentence.is_empty() {

@@ -14,16 +14,17 @@ use rv_job::LinkSettings;
 use rv_system::{JobError, System};
 use std::alloc::Global;
 
-/// Reads sources; behind them comes what words define, by the values that names of the program have in it.
+/// Reads sources, for debuggers or not; behind them comes what words define, by the values that names of the program have in it.
 pub(crate) fn settled_inputs<'a, S: System>(
     system: &mut S,
     files: &'a [&'a str],
     words: &[&str],
     settings: LinkSettings,
+    is_debug: bool,
 ) -> Result<Inputs<'a>, JobError> {
     let alloc: Global = system.alloc();
     let mut definitions = Definitions::of(alloc, words, settings.options)?;
-    let mut inputs = Inputs::read(system, files, &definitions, settings.pads_ends)?;
+    let mut inputs = Inputs::read(system, files, &definitions, settings.pads_ends, is_debug)?;
     if definitions.use_link() {
         settle_inputs(system, settings, &mut definitions, &mut inputs)?;
     }
