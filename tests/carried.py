@@ -12,6 +12,9 @@ address.
 Of the sources that GCC writes, `rv build -g` makes what is loaded without `-g`, and the debug sections that `rv ld -g`
 makes of their objects by `rv as -g`; also where one stands in an archive, and --defsym uses names of the program.
 
+Where GCC writes lines as `.loc`, objdump reads in the executable of `rv build -g` the rows that GNU as and ld make of the
+same sources, and no program is loaded otherwise than without `-g` of these sources without their lines.
+
 Without GCC for RISC-V nothing is tested. Standard library alone; the last line is 'N passed, M failed'.
 """
 
@@ -80,6 +83,13 @@ WORDS = (
     "-O2 -gdwarf-4 -ffunction-sections",
     "-O1 -g -gdwarf-4 -mno-relax",
     "-O3 -gdwarf-3 -ffunction-sections",
+)
+LOCATED = (
+    "-O0 -g -fdata-sections",
+    "-O2 -g -ffunction-sections -fdata-sections",
+    "-O3 -gdwarf-5 -fdata-sections",
+    "-Os -g -gdwarf-4 -ffunction-sections -fdata-sections",
+    "-O1 -gdwarf-4 -fdata-sections -mno-relax",
 )
 AS_DATA = "-gno-as-loc-support -fno-dwarf2-cfi-asm -fdata-sections -fno-ipa-icf"
 DEFINED = "--defsym heap=_end+16 --defsym half=main-_start"
@@ -192,6 +202,55 @@ def misbuilt(folder, words):
     return wrong
 
 
+def rows_in(folder, exe):
+    """The rows of C in the line table: file, line, address, and whether it is a statement."""
+    said = call(folder, f"{GNU}objdump --dwarf=decodedline {exe}")
+    rows = re.findall(r"(?m)^((?:first|second)\.c) +(\d+) +(?:0x)?([0-9a-f]+)(?: +\d+)?( +x)? *$", said)
+    return sorted((name, int(line), int(place, 16), bool(stmt)) for name, line, place, stmt in rows)
+
+
+def lines_of_functions(folder, exe):
+    """Where functions stand in C, by their names."""
+    symbols = re.findall(r"(?m)^(\w+) T (main|twice|never_\w+)$", call(folder, f"{GNU}nm {exe}"))
+    return {name: call(folder, f"{GNU}addr2line -e {exe} {place}") for place, name in symbols}
+
+
+def without_lines(text):
+    """A source without the directives that say lines."""
+    return re.sub(r"(?m)^\t\.(loc |file \d).*$", "", text)
+
+
+def mislocated(folder, words):
+    """What is wrong in programs of sources that say their lines by `.loc`."""
+    linked, wrong = "start first second".split(), []
+    (folder / "start.s").write_text(START)
+    for name, text in (("first", FIRST), ("second", SECOND)):
+        (folder / f"{name}.c").write_text(text)
+        call(folder, f"{GNU}gcc {MACHINE} {words} -fno-ipa-icf -S -o {name}.s {name}.c")
+        # (GNU as finds more instructions of two bytes)
+        text = (folder / f"{name}.s").read_text().replace("\t.text\n", "\t.option norvc\n\t.text\n", 1)
+        (folder / f"{name}.s").write_text(text)
+        (folder / f"{name}-plain.s").write_text(without_lines(text))
+    for name in linked:
+        call(folder, f"{RV} as -g -o {name}.o {name}.s")
+        call(folder, f"{GNU}as {MACHINE.rsplit(' ', 1)[0]} -o {name}-gnu.o {name}.s")
+    objects, gnu = " ".join(f"{it}.o" for it in linked), " ".join(f"{it}-gnu.o" for it in linked)
+    call(folder, f"{RV} ld -g --no-relax -o prog --map map {objects}")
+    regions = dict(re.findall(r"(?m)^(text|rodata|data|bss) (\w+) ", (folder / "map").read_text()))
+    (folder / "script").write_text(SCRIPT % tuple(int(regions[it], 16) for it in ("text", "rodata", "data", "bss")))
+    call(folder, f"{GNU}ld --no-relax -T script -o gnu {gnu}")
+    if not rows_in(folder, "gnu") or rows_in(folder, "prog") != rows_in(folder, "gnu"):
+        wrong.append("rows")
+    call(folder, f"{RV} build -g -o built start.s first.s second.s")
+    call(folder, f"{RV} build -o plain start.s first-plain.s second-plain.s")
+    call(folder, f"{GNU}ld -T script -o relaxed {gnu}")
+    if not is_loaded_as((folder / "plain").read_bytes(), (folder / "built").read_bytes()):
+        wrong.append("image")
+    if lines_of_functions(folder, "built") != lines_of_functions(folder, "relaxed"):
+        wrong.append("functions")
+    return wrong
+
+
 def main():
     if not shutil.which(f"{GNU}gcc"):
         print(f"no {GNU}gcc: nothing tested")
@@ -212,6 +271,13 @@ def main():
                 failed += bool(wrong)
                 if wrong:
                     print(f"{words}, {what}: {' '.join(wrong)}")
+    for words in LOCATED:
+        with tempfile.TemporaryDirectory() as name:
+            wrong = mislocated(Path(name), words)
+            passed += not wrong
+            failed += bool(wrong)
+            if wrong:
+                print(f"{words}, lines: {' '.join(wrong)}")
     print(f"{passed} passed, {failed} failed")
     return int(failed > 0)
 
