@@ -12,8 +12,8 @@ address.
 Of the sources that GCC writes, `rv build -g` makes what is loaded without `-g`, and the debug sections that `rv ld -g`
 makes of their objects by `rv as -g`; also where one stands in an archive, and --defsym uses names of the program.
 
-Where GCC writes lines as `.loc`, objdump reads in the executable of `rv build -g` the rows that GNU as and ld make of the
-same sources, and no program is loaded otherwise than without `-g` of these sources without their lines.
+Where GCC writes lines as `.loc`, objdump reads in the executable of `rv ld -g` the rows that GNU as and ld make of the
+same sources, and `rv build -g` loads what these sources without their lines give without `-g`.
 
 Without GCC for RISC-V nothing is tested. Standard library alone; the last line is 'N passed, M failed'.
 """

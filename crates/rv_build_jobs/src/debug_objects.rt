@@ -46,7 +46,7 @@ pub(crate) fn object_for_debuggers<S: System>(
             let plain = plain_text(alloc, text)?;
             let file = plain_object(system, name, plain.as_slice(), relax, explains)?;
             warn_of_plain(system, name, fault)?;
-            typed_object(alloc, name, file.as_slice(), text, relax)
+            typed_object(alloc, name, file.as_slice(), plain.as_slice(), relax)
         }
     }
 }

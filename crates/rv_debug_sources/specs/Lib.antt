@@ -4,7 +4,7 @@ pub mod Names
 pub mod Leb128
 -- Lines that a source says of its code, by the tokens of its statements.
 pub mod Lines
--- The line table of what a source says of lines, as statements behind its last one.
+-- The line table of what a source says of lines, as statements behind its last one: a unit of DWARF 5.
 pub mod LineText
 -- How a source is changed, so that what debug sections refer to is kept.
 pub mod Sources

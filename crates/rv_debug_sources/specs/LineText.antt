@@ -23,7 +23,9 @@ with_digits text b = text ++ digit (b / 16) ∷ digit (b % 16) ∷ []
 abbrev pub with_offset : List ℕ → ℕ → List ℕ
 with_offset text at =
     with_digits
-    (with_digits (with_digits (with_digits text (at / 16777216)) (at / 65536 % 256)) (at / 256 % 256))
+    (with_digits
+    (with_digits (with_digits text (at / 16777216)) (at / 65536 % 256))
+    (at / 256 % 256))
     (at % 256)
 
 abbrev pub row_front : List ℕ
@@ -48,8 +50,8 @@ address_word = codes ".byte 0,9,2\n.8byte "
 abbrev pub end_word : List ℕ
 end_word = codes "\n.byte 0,1,1\n"
 
-abbrev pub with_number : List ℕ → (front : List ℕ) → ℕ → List ℕ
-with_number text front n = (text ++ front) ++ unsigned_text 10 n
+abbrev pub number_behind : List ℕ → (front : List ℕ) → ℕ → List ℕ
+number_behind text front n = (text ++ front) ++ unsigned_text 10 n
 
 -- DW_LNS_advance_line
 abbrev pub advance_word : List ℕ
@@ -62,7 +64,7 @@ with_advance text from to =
 
 -- a register that has another number now
 abbrev pub with_register : List ℕ → (front : List ℕ) → (old new : ℕ) → List ℕ
-with_register text front old new = if old == new then text else with_number text front new
+with_register text front old new = if old == new then text else number_behind text front new
 
 abbrev pub with_mark : List ℕ → Bool → (mark : List ℕ) → List ℕ
 with_mark text false mark = text
@@ -101,7 +103,10 @@ abbrev pub with_marks : List ℕ → (is_stmt : Bool) → LineRow → List ℕ
 with_marks text is_stmt row =
     with_mark
     (with_mark
-    (with_mark (with_mark text (is_turned is_stmt row.is_stmt) (codes ",6")) row.basic_block (codes ",7"))
+    (with_mark
+    (with_mark text (is_turned is_stmt row.is_stmt) (codes ",6"))
+    row.basic_block
+    (codes ",7"))
     row.prologue_end
     (codes ",10"))
     row.epilogue_begin
@@ -121,8 +126,8 @@ with_step text old (Row row) = with_row text old row
 with_step text old (End at) = with_end text at
 
 -- the registers at the start of a sequence (6.2.2), with is_stmt as the header says
-abbrev pub start : LineRow
-start = record {
+abbrev pub first_registers : LineRow
+first_registers = record {
   at = 0;
   file = 1;
   line = 1;
@@ -136,7 +141,7 @@ start = record {
 
 abbrev pub registers_behind : LineStep → LineRow
 registers_behind (Row row) = row
-registers_behind (End at) = start
+registers_behind (End at) = first_registers
 
 abbrev pub with_steps : List ℕ → (registers : LineRow) → List LineStep → List ℕ
 with_steps text registers [] = text
@@ -152,7 +157,8 @@ with_last text true = ((text ++ address_word) ++ last_label) ++ end_word
 -- unit_length
 abbrev pub unit_word : List ℕ
 unit_word =
-    codes "\n.Lrv_line_last:\n.section .debug_line,\"a\"\n.4byte .Lrv_line_end-.Lrv_line_unit\n.Lrv_line_unit:\n"
+    codes "\n.Lrv_line_last:\n.section .debug_line,\"a\"\n"
+    ++ codes ".4byte .Lrv_line_end-.Lrv_line_unit\n.Lrv_line_unit:\n"
 
 -- version, address_size and segment_selector_size
 abbrev pub version_word : (is_five : Bool) → List ℕ
@@ -162,7 +168,8 @@ version_word false = codes ".2byte 4\n"
 -- header_length, and the fields that say what opcodes mean
 abbrev pub fields_word : List ℕ
 fields_word =
-    codes ".4byte .Lrv_line_program-.Lrv_line_fields\n.Lrv_line_fields:\n.byte 1,1,1,0xfb,14,13,0,1,1,1,1,0,0,0,1,0,0,1\n"
+    codes ".4byte .Lrv_line_program-.Lrv_line_fields\n.Lrv_line_fields:\n"
+    ++ codes ".byte 1,1,1,0xfb,14,13,0,1,1,1,1,0,0,0,1,0,0,1\n"
 
 abbrev pub with_string : (source : List ℕ) → List ℕ → SourcePart → List ℕ
 with_string source text p = (text ++ codes ".string ") ++ part p.start p.stop source
@@ -175,7 +182,7 @@ with_directories source text (p ∷ ps) =
 -- a path, the number of its directory, and, in DWARF 4, two numbers that say nothing
 abbrev pub with_name : (source : List ℕ) → (behind : List ℕ) → List ℕ → FileName → List ℕ
 with_name source behind text f =
-    with_number (with_string source text f.name) (codes "\n.byte ") f.directory ++ behind
+    number_behind (with_string source text f.name) (codes "\n.byte ") f.directory ++ behind
 
 abbrev pub with_names : (source : List ℕ) → (behind : List ℕ) → List ℕ → List FileName → List ℕ
 with_names source behind text [] = text
@@ -188,10 +195,10 @@ with_files_five source text s =
     with_names
     source
     (codes "\n")
-    (with_number
+    (number_behind
     (with_directories
     source
-    (with_number text (codes ".byte 1,1,8,") (length s.directories) ++ codes "\n")
+    (number_behind text (codes ".byte 1,1,8,") (length s.directories) ++ codes "\n")
     s.directories)
     (codes ".byte 2,1,8,2,15,")
     (length s.names)
@@ -217,7 +224,7 @@ with_header source false text s =
 
 abbrev pub with_program : List ℕ → Said → List ℕ
 with_program text s =
-    with_last (with_steps (text ++ codes ".Lrv_line_program:\n") start s.steps) s.is_open
+    with_last (with_steps (text ++ codes ".Lrv_line_program:\n") first_registers s.steps) s.is_open
     ++ codes ".Lrv_line_end:\n"
 
 -- a text with the table behind it, if the source names files, of which this is the first

@@ -48,14 +48,14 @@ small_number None = None
 small_number (Some t) = small_in t.kind
 
 -- a string, with its quotes
-abbrev pub is_text : Kind → Bool
-is_text (Text bytes) = true
-is_text _ = false
+abbrev pub is_string_kind : Kind → Bool
+is_string_kind (Text bytes) = true
+is_string_kind _ = false
 
 abbrev pub quoted : Option Token → Option SourcePart
 quoted None = None
 quoted (Some t) =
-    if is_text t.kind then Some (record { start = t.start; stop = t.stop }) else None
+    if is_string_kind t.kind then Some (record { start = t.start; stop = t.stop }) else None
 
 -- ---- `.file N "NAME"` and `.file N "DIRECTORY" "NAME"`
 
@@ -76,9 +76,9 @@ abbrev pub file_said : List Token → Option SaidFile
 file_said ts = option_and_then (file_by ts) (small_number (slice_get ts 1))
 
 -- numbers follow each other, from 0 or 1 on, where the first of so many files is this
-abbrev pub is_next : (number count : ℕ) → Option FileName → Bool
-is_next number count None = nat_le number 1
-is_next number count (Some f) = nat_le f.number number && (number - f.number == count)
+abbrev pub follows_files : (number count : ℕ) → Option FileName → Bool
+follows_files number count None = nat_le number 1
+follows_files number count (Some f) = nat_le f.number number && (number - f.number == count)
 
 abbrev pub is_given : Option SourcePart → Bool
 is_given None = false
@@ -87,7 +87,7 @@ is_given (Some directory) = true
 -- file 0 has the directory of the unit
 abbrev pub may_stand : Said → SaidFile → Bool
 may_stand s f =
-    is_next f.number (length s.names) (slice_get s.names 0)
+    follows_files f.number (length s.names) (slice_get s.names 0)
     && (nat_lt 0 f.number || is_given f.directory)
 
 -- directories are numbered as files are (DWARF 5, 6.2.4: from 0 on; DWARF 4, 6.2.4: from 1 on)
@@ -137,13 +137,13 @@ abbrev pub with_truth : LineRow → ℕ → Option LocReading
 with_truth row n =
     if nat_le n 1 then reading (record row { is_stmt = n == 1 }) await.Word else None
 
-abbrev pub with_number : LineRow → Awaited → ℕ → Option LocReading
-with_number row await.File n = reading (record row { file = n }) await.Line
-with_number row await.Line n = reading (record row { line = n }) await.Column
-with_number row await.Column n = reading (record row { column = n }) await.Word
-with_number row await.Truth n = with_truth row n
-with_number row await.Discriminator n = reading (record row { discriminator = n }) await.Word
-with_number row await.Word n = None
+abbrev pub loc_with_number : LineRow → Awaited → ℕ → Option LocReading
+loc_with_number row await.File n = reading (record row { file = n }) await.Line
+loc_with_number row await.Line n = reading (record row { line = n }) await.Column
+loc_with_number row await.Column n = reading (record row { column = n }) await.Word
+loc_with_number row await.Truth n = with_truth row n
+loc_with_number row await.Discriminator n = reading (record row { discriminator = n }) await.Word
+loc_with_number row await.Word n = None
 
 abbrev pub awaits_word : Awaited → Bool
 awaits_word await.Column = true
@@ -166,7 +166,7 @@ abbrev pub with_name : LocReading → List ℕ → Option LocReading
 with_name r word = if awaits_word r.awaits then with_word r.row word else None
 
 abbrev pub read_more : LocReading → Kind → Option LocReading
-read_more r (Number word n) = option_and_then (with_number r.row r.awaits) (small n)
+read_more r (Number word n) = option_and_then (loc_with_number r.row r.awaits) (small n)
 read_more r (Name word) = with_name r word
 read_more r _ = None
 
@@ -179,13 +179,13 @@ row_from r [] = option_and_then finished r
 row_from r (t ∷ ts) = row_from (option_and_then (λ r. read_more r t.kind) r) ts
 
 -- a row is of a file that has been named, where the first of so many files is this
-abbrev pub is_named : (file count : ℕ) → Option FileName → Bool
-is_named file count None = false
-is_named file count (Some f) = nat_le f.number file && nat_lt (file - f.number) count
+abbrev pub is_among_files : (file count : ℕ) → Option FileName → Bool
+is_among_files file count None = false
+is_among_files file count (Some f) = nat_le f.number file && nat_lt (file - f.number) count
 
 abbrev pub if_named : List FileName → LineRow → Option LineRow
 if_named names row =
-    if is_named row.file (length names) (slice_get names 0) then Some row else None
+    if is_among_files row.file (length names) (slice_get names 0) then Some row else None
 
 -- by the tokens behind the word
 abbrev pub row_said : Said → (at : ℕ) → List Token → Option LineRow

@@ -130,32 +130,33 @@ signed_in ts =
     then replaced ts 2 (option_and_then below (token_number (kind_in (slice_get ts 2)))) else Kept
 
 -- `.file N`, and `.loc`
-abbrev pub named : Statement → SaidFile → Statement
-named (Changed edit) f = Named edit f
-named _ f = Kept
+abbrev pub naming_file : Statement → SaidFile → Statement
+naming_file (Changed edit) f = Named edit f
+naming_file _ f = Kept
 
-abbrev pub placed : Statement → LineRow → Statement
-placed (Changed edit) row = Placed edit row
-placed _ row = Kept
+abbrev pub placing_row : Statement → LineRow → Statement
+placing_row (Changed edit) row = Placed edit row
+placing_row _ row = Kept
 
 -- a row's label stands in its place
 abbrev pub change_of_row : LineRow → Change
 change_of_row row = if row.line == 0 then Nothing else RowLabel row.at
 
-abbrev pub whole : List Token → Change → Statement
-whole ts change = replaced ts (length ts - 1) (Some change)
+abbrev pub whole_statement : List Token → Change → Statement
+whole_statement ts change = replaced ts (length ts - 1) (Some change)
 
 abbrev pub named_by : Said → List Token → Option SaidFile → Statement
 named_by said ts None = Kept
-named_by said ts (Some f) = if may_stand said f then named (whole ts Nothing) f else Kept
+named_by said ts (Some f) =
+    if may_stand said f then naming_file (whole_statement ts Nothing) f else Kept
 
 abbrev pub placed_by : List Token → Option LineRow → Statement
 placed_by ts None = Kept
-placed_by ts (Some row) = placed (whole ts (change_of_row row)) row
+placed_by ts (Some row) = placing_row (whole_statement ts (change_of_row row)) row
 
-abbrev pub placed_at : Said → List Token → Option Token → Statement
-placed_at said ts None = Kept
-placed_at said ts (Some t) = placed_by ts (row_said said t.start (drop 1 ts))
+abbrev pub loc_at : Said → List Token → Option Token → Statement
+loc_at said ts None = Kept
+loc_at said ts (Some t) = placed_by ts (row_said said t.start (drop 1 ts))
 
 abbrev pub statement_in : Said → List Token → Statement
 statement_in said ts =
@@ -166,7 +167,8 @@ statement_in said ts =
     else if is_this_word (codes ".sleb128") (kind_in (slice_get ts 0)) then signed_in ts
     else if is_this_word (codes ".file") (kind_in (slice_get ts 0))
     then named_by said ts (file_said ts)
-    else if is_this_word (codes ".loc") (kind_in (slice_get ts 0)) then placed_at said ts (slice_get ts 0) else Kept
+    else if is_this_word (codes ".loc") (kind_in (slice_get ts 0))
+    then loc_at said ts (slice_get ts 0) else Kept
 
 -- ---- the statements of a source, from its tokens
 
@@ -218,11 +220,11 @@ abbrev pub ended_by : Read → Option ℕ → Read
 ended_by r None = r
 ended_by r (Some at) = ended_at r at
 
-abbrev pub ended : Read → (first : Option Token) → Read
-ended r first = ended_by r (left_at r first)
+abbrev pub sequence_ended : Read → (first : Option Token) → Read
+sequence_ended r first = ended_by r (left_at r first)
 
 abbrev pub read_next : Read → List Token → Read
-read_next r ts = with_statement (ended r (slice_get ts 0)) (statement_in r.said ts)
+read_next r ts = with_statement (sequence_ended r (slice_get ts 0)) (statement_in r.said ts)
 
 abbrev pub read_all : Read → List (List Token) → Read
 read_all r [] = r
@@ -237,12 +239,12 @@ read_of source = read_all nothing_read (statements_of source)
 -- ---- the changed source
 
 -- none where nothing is changed, or where the source itself has a debug section loaded
-abbrev pub is_kept : Read → Bool
-is_kept r = r.loads || (length r.edits == 0)
+abbrev pub stays_as_it_is : Read → Bool
+stays_as_it_is r = r.loads || (length r.edits == 0)
 
 abbrev pub changed_by : (source : List ℕ) → Read → Option (List ℕ)
 changed_by source r =
-    if is_kept r then None
+    if stays_as_it_is r then None
     else Some (with_table source (edited false source r.edits) r.said)
 
 abbrev pub changed : List ℕ → Option (List ℕ)
@@ -251,7 +253,7 @@ changed source = changed_by source (read_of source)
 -- ---- the plain source: of these changes only LEB128 numbers are bytes, and nothing says lines
 
 abbrev pub plain_by : (source : List ℕ) → Read → Option (List ℕ)
-plain_by source r = if is_kept r then None else Some (edited true source r.edits)
+plain_by source r = if stays_as_it_is r then None else Some (edited true source r.edits)
 
-abbrev pub plain : List ℕ → Option (List ℕ)
-plain source = plain_by source (read_of source)
+abbrev pub plain_text : List ℕ → Option (List ℕ)
+plain_text source = plain_by source (read_of source)

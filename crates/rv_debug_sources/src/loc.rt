@@ -76,7 +76,7 @@ fn read_more(reading: LocReading, kind: TokenKind<'_>) -> Option<LocReading>
 
 /// A row with a number, if it has 32 bits.
 fn with_small(reading: LocReading, number: Option<u64>) -> Option<LocReading>
-    ensures { result ≡ option_and_then (laws.with_number reading.row reading.awaits) number }
+    ensures { result ≡ option_and_then (laws.loc_with_number reading.row reading.awaits) number }
 {
     match number {
         Some(number) => with_number(reading.row, reading.awaits, number),
@@ -86,7 +86,7 @@ fn with_small(reading: LocReading, number: Option<u64>) -> Option<LocReading>
 
 /// A row with a number.
 fn with_number(row: LineRow, awaits: Awaited, number: u64) -> Option<LocReading>
-    ensures { result ≡ laws.with_number row awaits number }
+    ensures { result ≡ laws.loc_with_number row awaits number }
 {
     match awaits {
         Awaited::File => then(

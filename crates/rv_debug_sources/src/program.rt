@@ -12,7 +12,7 @@ use std::alloc::AllocError;
 
 /// Adds rows and the ends of their sequences, from the start of a sequence on.
 pub(crate) fn put_steps(text: &mut Vec<u8>, steps: &[LineStep]) -> Result<(), AllocError>
-    ensures { OnOk result (text.new.items ≡ laws.with_steps text.old.items laws.start steps.now) }
+    ensures { OnOk result (text.new.items ≡ laws.with_steps text.old.items laws.first_registers steps.now) }
 {
     let mut registers = start();
     for step in steps {
@@ -24,7 +24,7 @@ pub(crate) fn put_steps(text: &mut Vec<u8>, steps: &[LineStep]) -> Result<(), Al
 
 /// The registers at the start of a sequence.
 fn start() -> LineRow
-    ensures { result ≡ laws.start }
+    ensures { result ≡ laws.first_registers }
 {
     LineRow {
         at: 0,
@@ -138,7 +138,7 @@ fn put_register(text: &mut Vec<u8>, front: &[u8], old: u64, new: u64) -> Result<
 
 /// Adds a front, and a number of any size.
 pub(crate) fn put_number(text: &mut Vec<u8>, front: &[u8], number: u64) -> Result<(), AllocError>
-    ensures { OnOk result (text.new.items ≡ laws.with_number text.old.items front.now number) }
+    ensures { OnOk result (text.new.items ≡ laws.number_behind text.old.items front.now number) }
 {
     text.extend_from_slice(front)?;
     put_unsigned(text, number)

@@ -47,7 +47,7 @@ impl Lines {
 
     /// Whether a number is that of the next file.
     fn is_next(&self, number: u64) -> bool
-        ensures { result ≡ laws.is_next number (length (said_of self.now).names) (slice_get (said_of self.now).names 0) }
+        ensures { result ≡ laws.follows_files number (length (said_of self.now).names) (slice_get (said_of self.now).names 0) }
     {
         match self.names.as_slice().get(0) {
             Some(file) => {
@@ -59,7 +59,7 @@ impl Lines {
 
     /// Whether a file of this number has been named.
     fn is_named(&self, number: u64) -> bool
-        ensures { result ≡ laws.is_named number (length (said_of self.now).names) (slice_get (said_of self.now).names 0) }
+        ensures { result ≡ laws.is_among_files number (length (said_of self.now).names) (slice_get (said_of self.now).names 0) }
     {
         match self.names.as_slice().get(0) {
             Some(file) => {

@@ -45,7 +45,7 @@ pub fn changed_source(alloc: Global, source: &[u8]) -> Result<Option<Vec<u8>>, A
 /// A source without what says lines, and with LEB128 numbers as bytes; none where [`changed_source`] has none.
 pub fn plain_source(alloc: Global, source: &[u8]) -> Result<Option<Vec<u8>>, AllocError>
     ensures { IfOk result (λ plain. length source.now + 1 < 2 ^ 32
-        → option_map (λ text. text.items) plain ≡ laws.plain source.now) }
+        → option_map (λ text. text.items) plain ≡ laws.plain_text source.now) }
 {
     let read = read(alloc, source)?;
     if read.is_kept() {
@@ -87,7 +87,7 @@ fn is_last(kind: TokenKind<'_>) -> bool
 impl<'a> Reader<'a> {
     /// Whether the source stays as it is.
     fn is_kept(&self) -> bool
-        ensures { result ≡ laws.is_kept (read_so_far self.now) }
+        ensures { result ≡ laws.stays_as_it_is (read_so_far self.now) }
     {
         self.loads || self.edits.is_empty()
     }
@@ -123,7 +123,7 @@ impl<'a> Reader<'a> {
     /// Ends the sequence that has begun, where the statement leaves its section.
     fn end_sequence(&mut self) -> Result<(), AllocError>
         ensures read { OnOk result (read_so_far self.new
-            ≡ laws.ended (read_so_far self.old) (slice_get (map token_of self.old.begun.items) 0)) }
+            ≡ laws.sequence_ended (read_so_far self.old) (slice_get (map token_of self.old.begun.items) 0)) }
         ensures same { OnOk result (self.new.begun.items ≡ self.old.begun.items) }
     {
         match self.left_at() {

@@ -54,7 +54,7 @@ fn named_as(lines: &Lines, tokens: &[Token<'_>], file: SaidFile) -> Statement
 
 /// A changed statement names a file.
 fn named(statement: Statement, file: SaidFile) -> Statement
-    ensures { result ≡ laws.named statement file }
+    ensures { result ≡ laws.naming_file statement file }
 {
     match statement {
         Statement::Changed(edit) => Statement::Named(edit, file),
@@ -64,7 +64,7 @@ fn named(statement: Statement, file: SaidFile) -> Statement
 
 /// What becomes of `.loc`.
 fn placed_at(lines: &Lines, tokens: &[Token<'_>]) -> Statement
-    ensures { result ≡ laws.placed_at (said_of lines.now) (map token_of tokens.now)
+    ensures { result ≡ laws.loc_at (said_of lines.now) (map token_of tokens.now)
         (slice_get (map token_of tokens.now) 0) }
 {
     match tokens.get(0) {
@@ -91,7 +91,7 @@ fn placed_by(tokens: &[Token<'_>], row: Option<LineRow>) -> Statement
 
 /// A changed statement is a row.
 fn placed(statement: Statement, row: LineRow) -> Statement
-    ensures { result ≡ laws.placed statement row }
+    ensures { result ≡ laws.placing_row statement row }
 {
     match statement {
         Statement::Changed(edit) => Statement::Placed(edit, row),
@@ -111,7 +111,7 @@ fn change_of_row(row: &LineRow) -> Change
 
 /// A whole statement gives way to a text.
 fn whole(tokens: &[Token<'_>], change: Change) -> Statement
-    ensures { result ≡ laws.whole (map token_of tokens.now) change }
+    ensures { result ≡ laws.whole_statement (map token_of tokens.now) change }
 {
     replaced_by(tokens, tokens.len().saturating_sub(1), change)
 }

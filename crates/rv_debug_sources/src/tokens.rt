@@ -156,7 +156,7 @@ pub(crate) fn quoted_at(tokens: &[Token<'_>], index: usize) -> Option<SourcePart
 }
 
 fn is_text(kind: TokenKind<'_>) -> bool
-    ensures { result ≡ lines.is_text (kind_of kind.entry) }
+    ensures { result ≡ lines.is_string_kind (kind_of kind.entry) }
 {
     matches!(kind, TokenKind::Text(_))
 }

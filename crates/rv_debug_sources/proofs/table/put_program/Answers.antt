@@ -1,6 +1,6 @@
 use Rattle.std.proofs.Common.{◌++◌, ◌∙◌, ap}
 use Rattle.std.specs.Prelude.{codes}
-use Rattle.rv_debug_sources.specs.LineText.{start, with_last, with_steps}
+use Rattle.rv_debug_sources.specs.LineText.{first_registers, with_last, with_steps}
 use Rattle.rv_debug_sources.proofs.table.put_program.Goals as goal
 
 pub returns : goal.returns
@@ -11,4 +11,4 @@ returns c =
     (c.in_ok-put_last.ensures
     ∙ ap (λ t. with_last t lines.is_open)
     (c.in_ok-put_steps.ensures
-    ∙ (λ i. with_steps (c.in_ok-extend_from_slice.ensures.items i) start (c.as_slice.ensures.value i))))
+    ∙ (λ i. with_steps (c.in_ok-extend_from_slice.ensures.items i) first_registers (c.as_slice.ensures.value i))))
