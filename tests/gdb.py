@@ -6,8 +6,9 @@ sources of which `rv build -g` makes it; `link`, those of which `rv as -g` and `
 GCC, which then links start.s and prog.c; `objects`, more words for GCC, which then makes an object of prog.c, that
 `rv ld -g` links behind that of start.s; `compiled`, more words for GCC, which first makes prog.s of prog.c, with debug
 information as data; `located`, the same, with lines as `.loc`; `archived`, more words for GCC, which first makes the
-archive prog.a of library.c; `file NAME`, all of a file when the session is over, with the escapes of C. A line `#--- NAME` begins a file. Behind `#--- session` a
-command stands as `(gdb) COMMAND`, and below it what gdb says, blank lines at its ends aside; a line `...` is any lines.
+archive prog.a of library.c; `file NAME`, all of a file when the session is over, with the escapes of C. A line
+`#--- NAME` begins a file. Behind `#--- session` a command stands as `(gdb) COMMAND`, and below it what gdb says, blank
+lines at its ends aside; a line `...` is any lines.
 Expected values come from the source of the program, and the words around them from gdb.
 
 Without gdb-multiarch nothing is tested. `tests/gdb.py NAME ..` runs the sessions whose names begin so. Standard library
