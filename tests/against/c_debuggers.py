@@ -35,13 +35,11 @@ from carried import SCRIPT, sections
 SOURCES = Path(__file__).resolve().parent / "c_debuggers"
 SESSION = SOURCES / "session.py"
 LEVELS = ("-O0", "-Og", "-O1", "-O2", "-Os")
-# Lines and frames as data, as docs/manual/gcc.md says; `-g` alone also brings .loc and .cfi_*.
-DEBUG = "-g -gno-as-loc-support -fno-dwarf2-cfi-asm"
+# Frames as data, as docs/manual/gcc.md says.
+DEBUG = "-g -fno-dwarf2-cfi-asm"
 # (.comm and .set of labels are left out of the language, and GNU ld joins constants)
 CODE = "-mabi=lp64 -mcmodel=medany -ffreestanding -w -fdata-sections -fno-ipa-icf -fno-merge-constants"
 GCC = [f"{GNU}gcc", *DEBUG.split(), *CODE.split(), f"-I{CSMITH}", "-I/usr/include/csmith", "-S"]
-# The ways whose symbols have no sizes yet, without which gdb does not name variables beside their addresses.
-UNSIZED = ("objects", "linked")
 # Short programs: in a long one gdb may need half a minute for the places of one line, in GNU's executable too.
 DRAWN = "--no-argc --max-funcs 6 --max-block-depth 3 --max-block-size 3 --max-expr-complexity 6 -o program.c".split()
 # Those of these seeds end within 100,000 instructions, also at -O0.
@@ -165,18 +163,13 @@ def said(folder, exe, names, rv):
     return [tuple(it.split("\n", 1)) for it in text.split(MARK)[1:]]
 
 
-def shown(way, answer):
-    """What is compared of an answer."""
-    return re.sub(r" <[\w.$+]+>", "", answer) if way in UNSIZED else answer
-
-
 def differences(folder, way, names, theirs, rv):
     """The questions to which gdb says something else of the executable of a way than of GNU's."""
     if image(folder / way) != image(folder / "theirs"):
         return [("image", "", "")]
     ours = said(folder, way, names, rv)
     pairs = zip(ours, theirs)
-    found = [(one[0], one[1], other[1]) for one, other in pairs if shown(way, one[1]) != shown(way, other[1])]
+    found = [(one[0], one[1], other[1]) for one, other in pairs if one[1] != other[1]]
     if [it[0] for it in ours] != [it[0] for it in theirs]:
         found.append(("questions", f"{len(ours)}\n", f"{len(theirs)}\n"))
     return found

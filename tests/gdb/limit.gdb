@@ -1,4 +1,4 @@
-# A run stops at a limit, and goes on where there is another.
+# A run stops at a limit, and goes on where there is another; a step there ends too.
 #--- prog.s
 .option norvc
 .globl _start
@@ -8,7 +8,7 @@ j _start
 (gdb) monitor limit 1001
 (gdb) continue
 
-Program received signal SIGTRAP, Trace/breakpoint trap.
+Program received signal SIGXCPU, CPU time limit exceeded.
 0x0000000000010004 in ?? ()
 (gdb) print $t0
 $1 = 501
@@ -17,10 +17,14 @@ $1 = 501
 (gdb) monitor limit 2000
 (gdb) continue
 
-Program received signal SIGTRAP, Trace/breakpoint trap.
+Program received signal SIGXCPU, CPU time limit exceeded.
 0x0000000000010000 in ?? ()
 (gdb) print $t0
 $2 = 1000
+(gdb) stepi
+
+Program received signal SIGXCPU, CPU time limit exceeded.
+0x0000000000010000 in ?? ()
 (gdb) monitor help
 monitor stats: where the run stands
 monitor limit N: stop after N instructions

@@ -29,6 +29,7 @@ enum Signal {
     Trap = 5,
     Bus = 10,
     Segment = 11,
+    ProcessorTime = 24,
 }
 
 /// The signal of an end that is no exit.
@@ -41,7 +42,8 @@ fn signal_of(end: End) -> Signal {
         | End::LoadOutside(_)
         | End::StoreText(_)
         | End::StoreOutside(_) => Signal::Segment,
-        End::Breakpoint | End::Limit | End::Exited(_) => Signal::Trap,
+        End::Limit => Signal::ProcessorTime,
+        End::Breakpoint | End::Exited(_) => Signal::Trap,
     }
 }
 
@@ -90,7 +92,9 @@ fn put_met(reply: &mut Vec<u8>, met: Met, features: Features) -> Result<(), Allo
 /// Adds the answer that says why a program stands, in words that the debugger takes.
 pub fn put_stop(reply: &mut Vec<u8>, stop: Stop, features: Features) -> Result<(), AllocError> {
     match stop {
-        Stop::Done | Stop::Limit => put_signal(reply, Signal::Trap),
+        Stop::Done => put_signal(reply, Signal::Trap),
+        // (a debugger takes a trap for the end of its own step, and would step on and on)
+        Stop::Limit => put_signal(reply, Signal::ProcessorTime),
         Stop::At(met) => put_met(reply, met, features),
         Stop::Start => {
             put_signal(reply, Signal::Trap)?;
