@@ -6,5 +6,3 @@ pub mod Leb128Lemmas
 pub mod EditsLemmas
 -- Rows, directories and files, one after another.
 pub mod LinesLemmas
--- The last token of a source.
-pub mod LastLemmas

@@ -1,2 +1,2 @@
--- Files of objects whose symbols have types and sizes.
+-- Files of objects whose symbols have the types and the sizes that directives of the source say.
 pub mod Typed

@@ -3,7 +3,7 @@ use Rattle.rv_lexer.specs.Cursor.{remaining}
 use Rattle.rv_lexer.specs.Token.{token_of}
 use Rattle.rv_debug_sources.specs.Reading.{found_with}
 use Rattle.rv_debug_sources.specs.Sources.{nothing_read, read_all, statements_from}
-use Rattle.rv_debug_sources.proofs.LastLemmas.{last_one}
+use Rattle.rv_marks.proofs.MarksLemmas.{last_one}
 use Rattle.rv_debug_sources.proofs.source.read.Goals as goal
 
 pub loop-reader-preserved : goal.loop-reader-preserved
