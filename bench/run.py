@@ -38,9 +38,19 @@ from measure import (
     peak,
     repeated,
     spent,
+    turns,
 )
 from results import Results
-from sources import FAULT, compile_for, write_compiled, write_lines, write_parts, write_sources, write_texts
+from sources import (
+    FAULT,
+    compile_for,
+    write_compiled,
+    write_debugged,
+    write_lines,
+    write_parts,
+    write_sources,
+    write_texts,
+)
 
 # Small programs, and how often each is run.
 SMALL = ("exit7", "number")
@@ -52,6 +62,8 @@ OBJECTS = 500
 OBJECT_BYTES = 16 * 2**10
 TEXT_BYTES = 16 * MIB
 TEXTS = 16
+# For debuggers: a source of so many bytes, and functions of C.
+DEBUG_BYTES, FUNCTIONS = 2 * MIB, 600
 RESULTS = Results("run")
 
 
@@ -198,6 +210,23 @@ def objects(folder):
         measured("objects", f"ld{maker}", [LD, "-Map", folder / "map", *words], length)
 
 
+def debugging(folder):
+    """Builds for debuggers, of GCC's output with debug data and of assembly: processor time, with -g and without."""
+    need(AS, LD)
+    lines = folder / "lines.s"
+    write_lines(lines, DEBUG_BYTES)
+    made, executable = folder / "theirs.o", folder / "executable"
+    for what, source in (("GCC's output with -g", write_debugged(folder, FUNCTIONS)), ("assembly", lines)):
+        ways = {"rv": [], "rv -g": ["-g"], "GNU": [], "GNU -g": ["-g"]}
+        for tool, more in ways.items():
+            ways[tool] = [[*GNU_AS, *more, "-o", made, source], [LD, "-o", executable, made]]
+            if tool.startswith("rv"):
+                ways[tool] = [[RV, "build", *more, "-o", executable, source]]
+        for tool, seconds in turns(ways, 5).items():
+            print(f"{what}, {source.stat().st_size} bytes: {tool} {seconds:.3f} s")
+            RESULTS.add("debugging", what, tool, seconds=seconds, bytes=source.stat().st_size)
+
+
 def listings(folder):
     """Listing an executable: bytes of text a second, and the memory that it takes."""
     executable, shown = folder / "executable", folder / "map"
@@ -287,7 +316,21 @@ def watching(folder):
 
 BENCHMARKS = {
     it.__name__: it
-    for it in (sources, links, costs, places, watching, calls, hart, reading, compiler, many, objects, listings)
+    for it in (
+        sources,
+        links,
+        costs,
+        places,
+        watching,
+        calls,
+        hart,
+        reading,
+        compiler,
+        many,
+        objects,
+        debugging,
+        listings,
+    )
 }
 
 

@@ -169,6 +169,18 @@ def write_drawn(name, *flags, **drawn):
     return write
 
 
+def write_debugged(folder, functions):
+    """Writes what GCC makes of so many functions that are drawn, with debug data and lines by `.loc`; the path."""
+    need(GCC)
+    source, path = folder / "debugged.c", folder / "debugged.s"
+    source.write_text(Functions("debugged", 12).program(functions))
+    words = [*DRAWN_FLAGS, "-g", "-fno-dwarf2-cfi-asm", "-o", path, source]
+    subprocess.run([GCC, *words], check=True, capture_output=True)
+    with path.open("a") as file:
+        file.write(ENTRY)
+    return path
+
+
 def csmith_parts(folder):
     """What GCC makes of programs that csmith draws, at levels that take turns, without an end: each as its parts."""
     for seed in count(1):

@@ -142,6 +142,17 @@ def building():
     return table(["What", "By", "Time", "Memory"], rows)
 
 
+def debugging():
+    """Builds for debuggers: processor seconds, with -g and without."""
+    rows = of("run", "debugging")
+    tools = ("rv", "rv -g", "GNU", "GNU -g")
+    seconds = {(it["what"], it["tool"]): f"{it['seconds']:.3f}" for it in rows}
+    sizes = {it["what"]: f"{it['what']}, {it['bytes'] / MIB:.1f} MiB" for it in rows}
+    return table(
+        ["Seconds", *tools], [[shown, *(seconds.get((it, tool), "-") for tool in tools)] for it, shown in sizes.items()]
+    )
+
+
 def by_tool(head, rows, figure):
     """A table with a row for what was measured, and a column for each tool."""
     tools = [*dict.fromkeys(it["tool"] for it in rows)]
@@ -210,6 +221,7 @@ TABLES = {
     "places": (places, "run"),
     "watching": (watching, "run"),
     "building": (building, "run"),
+    "debugging": (debugging, "run"),
     "running": (running, "run"),
     "calls": (calls, "run"),
     "library": (library, "library"),
