@@ -147,15 +147,16 @@ def places_of_data(width):
 
 
 def places_of_stack(width):
-    """The same of the stack, which ends with a page."""
-    middle = STACK_BYTES // 2
+    """The same of the stack, which ends with a page. That one is there from the start, what lies below once it has been
+    written to."""
+    half = STACK_BYTES // 2
     return {
-        MIDDLE: (middle + PAGE // 2, STACK_BYTES),
+        MIDDLE: (STACK_BYTES - PAGE // 2, STACK_BYTES),
         "at the segment's start": (0, STACK_BYTES),
         "at the segment's end, a page's": (STACK_BYTES - width, STACK_BYTES),
-        "at a page's start": (middle, STACK_BYTES),
-        "at a page's end": (middle - width, STACK_BYTES),
-        "over a page's end": (middle - width // 2, STACK_BYTES),
+        "at a page's start": (half, STACK_BYTES),
+        "at a page's end": (half - width, STACK_BYTES),
+        "over a page's end": (half - width // 2, STACK_BYTES),
     }
 
 
@@ -250,8 +251,11 @@ def steps(words, limit):
     return host_instructions(RV, "run", "--limit", limit, *words, good=125)
 
 
-def beginning(segment, place, _):
-    """The programs that begin alike: those of a segment, and the whole programs at a place."""
+def beginning(segment, place, form):
+    """The programs that begin alike: those of a segment, and the whole programs at a place. Of the stack each begins by
+    itself, since what nobody has written is slower to load there."""
+    if segment == "stack":
+        return segment, place, form
     return (segment, place) if segment == WHOLE else segment
 
 
@@ -260,7 +264,8 @@ def measured(folder):
     steps of programs that begin alike are counted once."""
     programs = {key: (it,) for of in (code_programs, data_programs, turn_programs) for key, it in of(folder)}
     programs |= dict(origin_programs(folder))
-    firsts = {beginning(*key): it for key, it in reversed(programs.items()) if key[1] == MIDDLE or key[0] == WHOLE}
+    is_first = lambda segment, place, _: place == MIDDLE or segment in (WHOLE, "stack")
+    firsts = {beginning(*key): it for key, it in reversed(programs.items()) if is_first(*key)}
     starts = dict(zip(firsts, at_once(lambda it: steps(it, FROM), firsts.values())))
     counts = dict(zip(programs, at_once(lambda it: steps(it, TO), programs.values())))
     costs = {key: (count - starts[beginning(*key)]) / (TO - FROM) for key, count in counts.items()}

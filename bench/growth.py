@@ -173,18 +173,25 @@ PANELS = (
 
 
 def measured(panel):
-    """The seconds and the memory of each tool at the four sizes."""
-    found = {}
+    """The seconds and the memory of each tool at the four sizes; none of a peer that refuses one of them."""
+    found, refused = {}, set()
     for times in TIMES:
         with tempfile.TemporaryDirectory() as folder:
             for tool, commands, *given in panel.commands(Path(folder), times):
                 # (GNU ld takes long to shorten many calls)
                 runs = 1 if tool == "GNU" and times > 2 else 2
-                seconds, memory = figures(commands, *given, status=panel.status, runs=runs)
+                try:
+                    seconds, memory = figures(commands, *given, status=panel.status, runs=runs)
+                except Refused as why:
+                    if tool == "rv":
+                        raise
+                    print(f"{panel.name}, {panel.unit}, {times} times: {why}")
+                    refused.add(tool)
+                    continue
                 its = found.setdefault(tool, ([], []))
                 its[0].append(seconds)
                 its[1].append(memory)
-    return found
+    return {tool: its for tool, its in found.items() if tool not in refused}
 
 
 def shown(panel, found, results):

@@ -618,7 +618,7 @@ GROWING = {
     "labels": (lambda at, count: f"label_{at}: addi a0, a0, 1", 62_500),
     "calls": (lambda at, count: f"label_{at}: call label_{at * 7919 % count}", 50_000),
     "sections": (lambda at, count: f'.section .text.part_{at}, "ax"\nlabel_{at}: j label_{at * 7919 % count}', 3_750),
-    "data": (lambda at, count: f"label_{at}: .dword label_{at * 7919 % count} + {at}", 50_000),
+    "data": (lambda at, count: ".data\n" * (at == 0) + f"label_{at}: .dword label_{at * 7919 % count}", 50_000),
 }
 
 
