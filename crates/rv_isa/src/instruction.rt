@@ -235,6 +235,7 @@ impl Default for Inst {
 
 impl Inst {
     /// The instruction's format, with its operation and its operands.
+    #[inline(always)]
     pub fn format(self) -> Format
         ensures { result ≡ format_of self }
     {
