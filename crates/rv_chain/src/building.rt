@@ -35,8 +35,8 @@ use std::alloc::Global;
 /// For every input and every instruction limit, running the executable's bytes gives exactly the
 /// console and the end that the statements of the sources give, each executed in one step at the
 /// addresses of the map; only a jump to the inside of a statement ends the promise. This holds on every
-/// platform: with any devices, any memory beside the program and any `sp`, the same in both runs. Where
-/// calls are relaxed, those are short that can be, and no others.
+/// platform where nothing but the program is executed: with any devices, any other memory and any `sp`,
+/// the same in both runs. Where calls are relaxed, those are short that can be, and no others.
 ///
 /// The listing of the executable with the map shows, for each statement of code, the base
 /// instructions that stand for it there, and nothing else.
