@@ -56,7 +56,9 @@ def listings():
     """The files that list modules, with their text."""
     for path in sorted((TOP / "crates").glob("*/*/**/*.antt")):
         text = path.read_text(encoding="utf-8")
-        if path.name == "Lib.antt" or (path.with_suffix("").is_dir() and re.search(r"^(pub )?mod \w+$", text, re.MULTILINE)):
+        if path.name == "Lib.antt" or (
+            path.with_suffix("").is_dir() and re.search(r"^(pub )?mod \w+$", text, re.MULTILINE)
+        ):
             yield path, text
 
 
