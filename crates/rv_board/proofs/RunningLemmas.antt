@@ -12,8 +12,6 @@ use Rattle.rv_isa_laws.specs.Effect.{Next, Over, follow}
 use Rattle.rv_isa_laws.specs.Reader.{Reader}
 use Rattle.rv_isa_laws.specs.Run.{step, run}
 use Rattle.rv_isa_laws.proofs.ConsoleLemmas.{front_of_front}
-use Rattle.rv_isa_laws.proofs.ReaderLemmas.{word_read, word_read-exact}
-use Rattle.rv_parcel.proofs.ReaderLemmas.{reader, reader-exact}
 use Rattle.rv_machine.specs.declared.end.End.{End}
 use Rattle.rv_machine.specs.declared.end.End.TheVariants as ends
 use Rattle.rv_machine.specs.declared.hart.Hart.{Hart}
@@ -32,10 +30,6 @@ use Rattle.rv_board_laws.proofs.BehindLemmas.{outcome_behind, run_from_none, run
 use Rattle.rv_board.specs.declared.answering.Answer.TheVariants.{Went, Ended, Refused}
 use Rattle.rv_board.specs.Answers.{AnswersTo}
 use Rattle.rv_board.proofs.GoesOnLemmas.{carried, limited}
-
--- a reading, where a run has to be of some
-pub some_reader : Reader Spells StandsFor
-some_reader = record { word = word_read; words = word_read-exact; parcel = reader; parcels = reader-exact }
 
 -- the end that is the limit of the definitions is that of the code
 pub limit_only : (e : End) → law_end e ≡ laws.Limit → e ≡ ends.Limit
