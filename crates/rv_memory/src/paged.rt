@@ -4,9 +4,9 @@
 //! bytes of it. A look-up is a binary search, after a look at what is made of the stack. The bytes of neighbouring pages
 //! lie one after the other in their segment, where the image had them, so none is copied.
 //!
-//! At the start the stack's segment has only the last of its bytes. Below are zeros that no segment has: a load reads them
-//! as they are, and the first store there has the segment begin at the stack's start. The room for that is asked for at
-//! the start, as a store cannot want memory.
+//! At the start the stack's segment has only the last of its bytes. Below are zeros that no segment has: a load there
+//! compares with its two ends and is 0, and the first store there has the segment begin at the stack's start. The room for
+//! that is asked for at the start, as a store cannot want memory.
 //!
 //! In front of the search stand stretches: of code, and of the two segments where most data and the stack are, whichever
 //! of them is the higher one. One compare tells which, and one whether an access of its width lies in it, wherever pages
@@ -389,6 +389,22 @@ impl Paged {
         self.near(stretch.segment, stretch, address, bytes, Right::Read)
     }
 
+    /// The number of bytes that lie where the stack is not made yet: 0. In line it costs no more than a load elsewhere, and
+    /// only what no stretch holds comes here.
+    #[inline(always)]
+    fn read_unmade(&self, address: u64, bytes: u64) -> Option<u64>
+        ensures right { IfSome result (λ _. may (held_pages self.now) address bytes ToRead ≡ true) }
+        ensures number { IfSome result
+            (λ number. number ≡ number_at (held_pages self.now) address bytes) }
+        ensures bytes { IfSome result
+            (λ _. (k : ℕ) → k < bytes → (held_pages self.now).byte ((address + k) % 2 ^ 64) < 256) }
+    {
+        if self.is_unmade(address) && bytes <= self.base - address {
+            return Some(0);
+        }
+        None
+    }
+
     /// Puts bytes where the stretch on their side holds the address; whether it does.
     #[inline(always)]
     fn put_near(&mut self, address: u64, bytes: &[u8]) -> bool
@@ -569,7 +585,10 @@ impl Memory for Paged {
             Right::Execute => self.fetch(address, bytes),
             Right::Read => match self.read_near(address, bytes) {
                 Some(number) => Some(number),
-                None => self.load_elsewhere(address, bytes, right),
+                None => match self.read_unmade(address, bytes) {
+                    Some(number) => Some(number),
+                    None => self.load_elsewhere(address, bytes, right),
+                },
             },
             Right::Write => self.load_elsewhere(address, bytes, right),
         }
