@@ -1,3 +1,5 @@
+-- What code asks, by what it spells, and what is seen of its step.
+pub mod AskingLemmas
 -- What the environment's calls come to, by their tests.
 pub mod CallLemmas
 -- The events of a run, step by step.

@@ -1,6 +1,7 @@
 //! What a step did, as a watcher is told it.
 //!
-//! What a step reads and writes is looked up before it is done, the register that it sets after it.
+//! What a step reads and writes is looked up before it is done, the register that it sets after it. A watcher is lent a
+//! [`Step`], which stands for the step's event: what it does not ask of it costs it nothing.
 
 ghost use Rattle.std.specs.Prelude.{◌≡◌, ℕ, List, ◌*◌, ◌%◌, ◌^◌, true, Some, None, if◌then◌else◌, ◌-◌, length, take, drop};
 ghost use Rattle.rv_isa_laws.specs.Word.{Spells};
@@ -10,24 +11,24 @@ ghost use Rattle.rv_isa_laws.specs.Arithmetic.{low};
 ghost use Rattle.rv_isa_laws.specs.Effect.{Updates, On, Over, apply};
 ghost use Rattle.rv_isa_laws.specs.Hart as laws;
 ghost use Rattle.rv_isa_laws.specs.Memory.{Mem, may, number_at, Read as ToRead};
-ghost use Rattle.rv_isa_laws.specs.Meaning.{effect as effect_by};
 ghost use Rattle.rv_isa_laws.specs.Reader.{Reader};
-ghost use Rattle.rv_isa_laws.specs.Run.{Fetched as laws_fetched, fetch as fetched_at, done};
+ghost use Rattle.rv_isa_laws.specs.Run.{Fetched as laws_fetched, done};
 ghost use Rattle.rv_memory.specs.Rights.{IsWidth};
 ghost use Rattle.rv_machine.specs.Action.{effect_of, HasWidth, of_word, of_double};
-ghost use Rattle.rv_machine.specs.Asked.{IsAsked, IsAskedBy};
-ghost use Rattle.rv_machine.specs.declared.action.Action.TheVariants.{Break};
+ghost use Rattle.rv_machine.specs.Asked.{Asks, HasWidths};
+ghost use Rattle.rv_machine.specs.declared.hart.Hart.{Hart as AHart};
 ghost use Rattle.rv_machine.specs.End.{law_end};
-ghost use Rattle.rv_event_laws.specs.Event.{access, destination, set_to, sets, event_of};
-ghost use Rattle.rv_machine.specs.Fetch.{fetched_of, code_at};
+ghost use Rattle.rv_event_laws.specs.Event.{access, asks, destination, set_to, sets, event_of};
+ghost use Rattle.rv_machine.specs.Fetch.{fetched_of, spelled_at};
 ghost use Rattle.rv_machine.specs.Hart.{hart_of};
 ghost use Rattle.rv_machine.specs.Registers.{register_value};
-ghost use Rattle.rv_machine.specs.Seen.{AreSeen, AreMoved, IsLook, event_as};
+ghost use Rattle.rv_machine.specs.Seen.{AreSeen, AreMoved, event_as, event_by, set_of};
 
-use crate::action::{Action, Update, asked};
+use crate::action::{Action, Update};
 use crate::alu;
+use crate::asking::Asked;
 use crate::end::End;
-use crate::fetch::{Fetched, bits_at, spelled};
+use crate::fetch::{Fetched, Look};
 use crate::hart::Hart;
 use rv_event_laws::{Access, Setting};
 use rv_isa::{Format, Inst, Reg};
@@ -74,27 +75,6 @@ pub struct Accesses {
     pub stored: Option<Access>,
 }
 
-/// What stands at the address of the next instruction, and what its step is about to do.
-#[derive(Clone, Copy, Drop)]
-pub struct Look {
-    /// The address of the instruction.
-    pub pc: u64,
-    /// The bits of the word or the parcel that stands there; none where they may not be executed.
-    pub bits: Option<u32>,
-    /// What they spell.
-    pub fetched: Fetched,
-    /// What the instruction asks; where there is none, a breakpoint, which nobody does.
-    pub(crate) action: Action,
-    pub(crate) accesses: Accesses,
-}
-
-/// What an instruction asks, and what that reads and writes, if it goes on.
-#[derive(Clone, Copy, Drop)]
-struct Asks {
-    action: Action,
-    accesses: Accesses,
-}
-
 /// The bytes that a call moved.
 #[derive(Clone, Copy, Drop)]
 pub(crate) struct Moved {
@@ -102,11 +82,36 @@ pub(crate) struct Moved {
     pub put: Span,
 }
 
+/// What a step did, as a watcher is lent it: what it wants of it, it asks.
+#[derive(Clone, Copy, Drop)]
+pub struct Step {
+    pub(crate) look: Look,
+    pub(crate) accesses: Accesses,
+    pub(crate) moved: Moved,
+    pub(crate) end: Option<End>,
+}
+
+impl Accesses {
+    /// None.
+    pub(crate) const NONE: Self = Accesses {
+        read: None,
+        stored: None,
+    };
+}
+
+impl Moved {
+    /// None.
+    pub(crate) const NONE: Self = Moved {
+        taken: Span::NONE,
+        put: Span::NONE,
+    };
+}
+
 /// What a step came to.
 #[derive(Clone, Copy, Drop)]
 pub(crate) enum Stepped {
     /// The hart goes on.
-    Went(Moved),
+    Went(Accesses, Moved),
     Ended(End),
 }
 
@@ -238,84 +243,33 @@ fn accesses_of<M: Memory>(action: Action, memory: &M) -> Accesses
     }
 }
 
-/// The same of an action that is used again.
-#[inline]
-fn accesses_by<M: Memory>(action: &Action, memory: &M) -> Accesses
-    requires { HasWidth action.now }
-    ensures { (bytes : ℕ) (h : laws.Hart) →
-        AreSeen (apply (effect_of action.now bytes h) (M.mem memory.now))
-        (effect_of action.now bytes h) (M.mem memory.now) result }
+/// What was asked reads and writes, if the step goes on.
+#[inline(always)]
+fn accesses_asked<M: Memory>(asked: Asked, memory: &M) -> Accesses
+    requires { HasWidths asked }
+    ensures { (f : laws_fetched) (hart : AHart) (input console : List ℕ) → Asks f hart asked →
+        let before = hart_of hart input console in
+        AreSeen (done f before (M.mem memory.now)) (asks f before) (M.mem memory.now) result }
 {
-    accesses_of(*action, memory)
-}
-
-/// What an instruction of this length in bytes asks, and what that reads and writes, if it goes on.
-#[inline]
-fn asked_accesses<M: Memory>(inst: &Inst, bytes: u64, hart: &Hart, memory: &M) -> Asks
-    ensures asked { IsAsked inst.now bytes hart.now result.action }
-    ensures seen { (input console : List ℕ) →
-        let before = hart_of hart.now input console in
-        let effect = effect_by inst.now bytes before in
-        AreSeen (apply effect (M.mem memory.now)) effect (M.mem memory.now) result.accesses }
-{
-    let action = asked(*inst, bytes, hart);
-    let accesses = accesses_by(&action, memory);
-    Asks { action, accesses }
-}
-
-/// A look at what asks nothing.
-#[inline]
-fn without(pc: u64, bits: Option<u32>, fetched: Fetched) -> Look
-    ensures { result
-        ≡ record {
-          pc = pc;
-          bits = bits;
-          fetched = fetched;
-          action = Break;
-          accesses = record { read = None; stored = None };
-        } }
-{
-    Look {
-        pc,
-        bits,
-        fetched,
-        action: Action::Break,
-        accesses: Accesses {
-            read: None,
-            stored: None,
-        },
+    match asked {
+        Asked::Got(action, _) => accesses_of(action, memory),
+        Asked::NoRight | Asked::NoInstruction => Accesses::NONE,
     }
 }
 
-/// Fetches the next instruction, and looks at what it reads and writes, if it goes on.
-pub(crate) fn look_at<M: Memory>(hart: &Hart, memory: &M) -> Look
-    ensures asked { IsAskedBy result.fetched hart.now result.action }
-    ensures pc { result.pc ≡ hart.now.pc }
-    ensures bits { result.bits ≡ code_at (M.mem memory.now) hart.now.pc }
-    ensures look { (reader : Reader Spells StandsFor) (input console : List ℕ) →
-        let before = hart_of hart.now input console in
-        IsLook result (fetched_at reader (M.mem memory.now) before.pc) before (M.mem memory.now) }
+/// The same of what is used again.
+#[inline(always)]
+pub(crate) fn accesses_by<M: Memory>(asked: &Asked, memory: &M) -> Accesses
+    requires { HasWidths asked.now }
+    ensures { (f : laws_fetched) (hart : AHart) (input console : List ℕ) → Asks f hart asked.now →
+        let before = hart_of hart input console in
+        AreSeen (done f before (M.mem memory.now)) (asks f before) (M.mem memory.now) result }
 {
-    let pc = hart.pc;
-    let bits = bits_at(memory, pc);
-    match spelled(bits) {
-        Fetched::Got(inst, bytes) => {
-            let asks = asked_accesses(&inst, bytes, hart, memory);
-            Look {
-                pc,
-                bits,
-                fetched: Fetched::Got(inst, bytes),
-                action: asks.action,
-                accesses: asks.accesses,
-            }
-        }
-        Fetched::NoRight => without(pc, bits, Fetched::NoRight),
-        Fetched::NoInstruction => without(pc, bits, Fetched::NoInstruction),
-    }
+    accesses_asked(*asked, memory)
 }
 
 /// The register that an instruction sets; x0 where it sets none.
-fn destination_of(inst: Inst) -> Reg
+pub fn destination_of(inst: Inst) -> Reg
     ensures { result ≡ destination (format_of inst) }
 {
     match inst.format() {
@@ -333,15 +287,21 @@ fn destination_of(inst: Inst) -> Reg
     }
 }
 
-/// The register that was set, with its value.
-fn setting_of(fetched: Fetched, hart: &Hart) -> Option<Setting>
-    ensures { let register = sets (fetched_of fetched) in
-        result ≡ set_to register (register_value hart.now.registers register) }
+/// The register that what was fetched sets; x0 where it sets none.
+fn set_by(fetched: &Fetched) -> Reg
+    ensures { result ≡ sets (fetched_of fetched.now) }
 {
-    let register = match fetched {
+    match *fetched {
         Fetched::Got(inst, _) => destination_of(inst),
-        _ => Reg::ZERO,
-    };
+        Fetched::NoRight | Fetched::NoInstruction => Reg::ZERO,
+    }
+}
+
+/// A register that was set, with its value; none of x0.
+#[inline]
+fn setting_of(register: Reg, hart: &Hart) -> Option<Setting>
+    ensures { result ≡ set_to register (register_value hart.now.registers register) }
+{
     if register == Reg::ZERO {
         return None;
     }
@@ -351,40 +311,143 @@ fn setting_of(fetched: Fetched, hart: &Hart) -> Option<Setting>
     })
 }
 
-/// The event of a step that went on, after it.
-pub(crate) fn went_on(look: Look, moved: Moved, hart: &Hart) -> Event
-    ensures { (f : laws_fetched) (h : laws.Hart) (m : Mem) (input console : List ℕ) (m' : Mem) →
-        IsLook look f h m → done f h m ≡ On (hart_of hart.now input console) m'
-        → AreMoved moved (take (length h.input - length input) h.input)
-        (drop (length h.console) console) m'
-        → event_as result m' ≡ event_of f h m }
-{
-    Event {
-        pc: look.pc,
-        fetched: look.fetched,
-        read: look.accesses.read,
-        stored: look.accesses.stored,
-        set: setting_of(look.fetched, hart),
-        taken: moved.taken,
-        put: moved.put,
-        end: None,
+impl Step {
+    /// One that went on.
+    #[inline(always)]
+    pub(crate) fn went_on(look: Look, accesses: Accesses, moved: Moved) -> Self
+        ensures look { result.look ≡ look }
+        ensures event { (f : laws_fetched) (h : laws.Hart) (m : Mem) (hart : AHart) (input console : List ℕ) (m' : Mem) →
+            look.pc ≡ h.pc → AreSeen (done f h m) (asks f h) m accesses
+            → done f h m ≡ On (hart_of hart input console) m'
+            → AreMoved moved (take (length h.input - length input) h.input)
+            (drop (length h.console) console) m'
+            → event_by f result hart m' ≡ event_of f h m }
+    {
+        Step {
+            look,
+            accesses,
+            moved,
+            end: None,
+        }
     }
-}
 
-/// The event of a step that ended the run.
-pub(crate) fn ended(look: Look, end: End) -> Event
-    ensures { (f : laws_fetched) (h : laws.Hart) (m m' : Mem) →
-        IsLook look f h m → done f h m ≡ Over (law_end end)
-        → event_as result m' ≡ event_of f h m }
-{
-    Event {
-        pc: look.pc,
-        fetched: look.fetched,
-        read: None,
-        stored: None,
-        set: None,
-        taken: Span::NONE,
-        put: Span::NONE,
-        end: Some(end),
+    /// One that ended the run.
+    #[inline(always)]
+    pub(crate) fn ended(look: Look, end: End) -> Self
+        ensures look { result.look ≡ look }
+        ensures event { (f : laws_fetched) (h : laws.Hart) (m : Mem) (hart : AHart) (m' : Mem) →
+            look.pc ≡ h.pc → done f h m ≡ Over (law_end end)
+            → event_by f result hart m' ≡ event_of f h m }
+    {
+        Step {
+            look,
+            accesses: Accesses::NONE,
+            moved: Moved::NONE,
+            end: Some(end),
+        }
+    }
+
+    /// The address of the instruction.
+    #[inline]
+    pub fn pc(&self) -> u64
+        ensures { result ≡ self.now.look.pc }
+    {
+        self.look.pc
+    }
+
+    /// The bits that stand there.
+    #[inline]
+    pub fn bits(&self) -> Option<u32>
+        ensures { result ≡ self.now.look.bits }
+    {
+        self.look.bits
+    }
+
+    /// What the bits spell.
+    #[inline]
+    pub fn fetched(&self) -> Fetched
+        ensures { (reader : Reader Spells StandsFor) → fetched_of result ≡ spelled_at reader self.now.look.bits }
+    {
+        self.look.fetched()
+    }
+
+    /// The bytes read.
+    #[inline]
+    pub fn read(&self) -> Option<Access>
+        ensures { result ≡ self.now.accesses.read }
+    {
+        self.accesses.read
+    }
+
+    /// The bytes written; none of an `sc` that failed.
+    #[inline]
+    pub fn stored(&self) -> Option<Access>
+        ensures { result ≡ self.now.accesses.stored }
+    {
+        self.accesses.stored
+    }
+
+    /// The input that a call took, where it stands now.
+    #[inline]
+    pub fn taken(&self) -> Span
+        ensures { result ≡ self.now.moved.taken }
+    {
+        self.moved.taken
+    }
+
+    /// The bytes that a call put onto the console.
+    #[inline]
+    pub fn put(&self) -> Span
+        ensures { result ≡ self.now.moved.put }
+    {
+        self.moved.put
+    }
+
+    /// How the step ended the run.
+    #[inline]
+    pub fn end(&self) -> Option<End>
+        ensures { result ≡ self.now.end }
+    {
+        self.end
+    }
+
+    /// The register that was set, with its value, by the register that the instruction sets and the hart after the step.
+    #[inline]
+    pub fn set_in(&self, register: Reg, hart: &Hart) -> Option<Setting>
+        ensures { result ≡ set_of self.now.end register hart.now }
+    {
+        match self.end {
+            Some(_) => None,
+            None => setting_of(register, hart),
+        }
+    }
+
+    /// All that the step did, by the hart after it.
+    pub fn event(&self, hart: &Hart) -> Event
+        ensures { (f : laws_fetched) (m : Mem) →
+            ((reader : Reader Spells StandsFor) → spelled_at reader self.now.look.bits ≡ f)
+            → event_as result m ≡ event_by f self.now hart.now m }
+    {
+        let fetched = self.fetched();
+        let set = self.set_in(set_by(&fetched), hart);
+        (*self).with(fetched, set)
+    }
+
+    /// The event of what was fetched, with the register that was set.
+    #[inline]
+    fn with(self, fetched: Fetched, set: Option<Setting>) -> Event
+        ensures { (hart : AHart) (m : Mem) → let f = fetched_of fetched in
+            set ≡ set_of self.end (sets f) hart → event_as result m ≡ event_by f self hart m }
+    {
+        Event {
+            pc: self.look.pc,
+            fetched,
+            read: self.accesses.read,
+            stored: self.accesses.stored,
+            set,
+            taken: self.moved.taken,
+            put: self.moved.put,
+            end: self.end,
+        }
     }
 }

@@ -28,6 +28,7 @@
 mod access;
 mod action;
 mod alu;
+mod asking;
 mod calls;
 mod console;
 mod end;
@@ -46,6 +47,7 @@ mod quick;
 mod registers;
 mod request;
 mod running;
+mod seeing;
 mod state;
 mod streams;
 mod telling;
@@ -55,8 +57,8 @@ mod word;
 
 pub use action::{Load, Store};
 pub use end::End;
-pub use event::{Event, Look, Span};
-pub use fetch::{Fetched, bits_at, spelled};
+pub use event::{Event, Span, Step, destination_of};
+pub use fetch::{Fetched, Look, bits_at, spelled};
 pub use hart::{Hart, Reservation};
 pub use io::Io;
 pub use laws::runs_agree;

@@ -1,8 +1,9 @@
 //! Runs that are looked at between their steps.
 //!
-//! A watched run does the steps of `run_io` by the same functions, without the quick ones that no one could look at, and
-//! tells its watcher what stands at each step's address and the event of each step. A watcher only looks: it cannot
-//! change hart or memory, so what it shows is of the run itself. The machine is left in the run's last state.
+//! A watched run does the steps of `run_io` one at a time, and tells its watcher what stands at each step's address and the
+//! event of each step. A watcher only looks: it cannot change hart or memory, so what it shows is of the run itself. It is
+//! lent a [`Step`] that stands for the event, so that what it does not ask of it costs it nothing. The machine is left in
+//! the run's last state.
 
 ghost use Rattle.std.specs.Prelude.{◌≡◌, ℕ, List, [], ◌++◌, ◌∷◌, false, IfOk};
 ghost use Rattle.std.specs.Io.KnownBytes.{Appends};
@@ -10,19 +11,20 @@ ghost use Rattle.rv_isa_laws.specs.Word.{Spells};
 ghost use Rattle.rv_parcel.specs.Parcel.{StandsFor};
 ghost use Rattle.rv_isa_laws.specs.Hart.{start};
 ghost use Rattle.rv_isa_laws.specs.Reader.{Reader};
-ghost use Rattle.rv_isa_laws.specs.Run.{fetch};
-ghost use Rattle.rv_machine.specs.Fetch.{fetched_of, code_at};
+ghost use Rattle.rv_isa_laws.specs.Run.{Fetched, fetch};
+ghost use Rattle.rv_machine.specs.Fetch.{spelled_at, code_at};
 ghost use Rattle.rv_memory.specs.HeldPages.{held_pages};
 ghost use Rattle.rv_machine.specs.Hart.{hart_of};
 ghost use Rattle.rv_machine.specs.Registers.{register_value};
 ghost use Rattle.rv_machine.specs.Streams.{MayFollow};
 ghost use Rattle.rv_event_laws.specs.Event.{Event};
-ghost use Rattle.rv_machine.specs.Seen.{event_as};
+ghost use Rattle.rv_machine.specs.Seen.{event_by};
 ghost use Rattle.rv_machine.specs.Watching.{Shows, Unfailed, FailsIn};
 ghost use Rattle.rv_machine.specs.StreamSteps.{input_left, HasRead};
 
 use crate::end::End;
-use crate::event::{Event as Told, Look, Stepped, ended, look_at, went_on};
+use crate::event::{Step, Stepped};
+use crate::fetch::{Look, look_at};
 use crate::hart::Hart;
 use crate::running::{Intake, RunFault};
 use crate::streams::{GuestIn, GuestOut};
@@ -90,16 +92,18 @@ pub trait Watcher<M: Memory> {
     fn before(&mut self, look: &Look, machine: &Watched<M>) -> Result<(), ShowFault>
         requires pc { look.now.pc ≡ machine.now.hart.pc }
         requires bits { look.now.bits ≡ code_at (M.mem machine.now.memory) machine.now.hart.pc }
-        requires fetched { (reader : Reader Spells StandsFor) → fetched_of look.now.fetched
+        requires fetched { (reader : Reader Spells StandsFor) → spelled_at reader look.now.bits
             ≡ fetch reader (M.mem machine.now.memory) machine.now.hart.pc }
         ensures kept { IfOk result
             (λ _. (past : List Event) → has_seen self.old past → has_seen self.new past) };
 
-    /// Is told what a step did, and looks at the machine after it.
-    fn after(&mut self, event: &Told, machine: &Watched<M>) -> Result<(), ShowFault>
-        ensures told { IfOk result
-            (λ _. (past : List Event) → has_seen self.old past
-            → has_seen self.new (past ++ (event_as event.now (M.mem machine.now.memory) ∷ []))) };
+    /// Is told what a step did, and looks at the machine after it. The step's event is of what its bits spell.
+    fn after(&mut self, step: &Step, machine: &Watched<M>) -> Result<(), ShowFault>
+        ensures told { IfOk result (λ _. (fetched : Fetched) →
+            ((reader : Reader Spells StandsFor) → spelled_at reader step.now.look.bits ≡ fetched) →
+            (past : List Event) → has_seen self.old past
+            → has_seen self.new
+            (past ++ (event_by fetched step.now machine.now.hart (M.mem machine.now.memory) ∷ []))) };
 }
 
 impl<M: Memory> Watched<M> {
@@ -214,24 +218,24 @@ pub fn run_watched<R: GuestIn, W: GuestOut, T: Watcher<Paged>>(
             Err(fault) => return Err(WatchFault::Watcher(fault)),
         }
         match step_told(
-            &look,
+            look.bits,
             &mut machine.hart,
             &mut machine.memory,
             &mut machine.intake,
             reader,
             writer,
         ) {
-            Ok(Stepped::Went(moved)) => {
+            Ok(Stepped::Went(accesses, moved)) => {
                 remaining -= 1;
-                let event = went_on(look, moved, &machine.hart);
-                match watcher.after(&event, machine) {
+                let step = Step::went_on(look, accesses, moved);
+                match watcher.after(&step, machine) {
                     Ok(()) => {}
                     Err(fault) => return Err(WatchFault::Watcher(fault)),
                 }
             }
             Ok(Stepped::Ended(end)) => {
-                let event = ended(look, end);
-                return match watcher.after(&event, machine) {
+                let step = Step::ended(look, end);
+                return match watcher.after(&step, machine) {
                     Ok(()) => Ok(end),
                     Err(fault) => Err(WatchFault::Watcher(fault)),
                 };

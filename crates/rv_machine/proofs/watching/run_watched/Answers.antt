@@ -3,13 +3,16 @@ use Rattle.std.proofs.lemmas.List.{append-nil}
 use Rattle.rv_isa_laws.specs.Memory.{Mem}
 use Rattle.rv_memory.specs.HeldPages.{held_pages}
 use Rattle.rv_isa_laws.specs.Hart as laws
-use Rattle.rv_isa_laws.specs.Run.{run, fetch, step}
+use Rattle.rv_isa_laws.specs.Run.{Fetched, run, fetch, step}
 use Rattle.rv_machine.specs.End.{law_end}
 use Rattle.rv_event_laws.specs.Event.{Event, events}
 use Rattle.rv_machine.specs.Hart.{hart_of}
 use Rattle.rv_machine.specs.LastState.{last_state}
-use Rattle.rv_machine.specs.Seen.{event_as}
+use Rattle.rv_machine.specs.declared.fetch.Look.{Look}
+use Rattle.rv_machine.specs.Fetch.{spelled_at}
+use Rattle.rv_machine.specs.Seen.{event_by}
 use Rattle.rv_machine.specs.StreamSteps.{Input, input_left}
+use Rattle.rv_machine.proofs.AskingLemmas.{seen_in, some_reader, spelled_same}
 use Rattle.rv_machine.proofs.EventLemmas.{told_on, told_over, told_front, fronts, seen_more}
 use Rattle.rv_machine.proofs.KnownLemmas.{has_read_none, has_read_more, appends_kept}
 use Rattle.rv_machine.proofs.MovedLemmas.{moved_as, moved_between, stepped_as}
@@ -25,7 +28,10 @@ pub before-requires-clause-bits : goal.before-requires-clause-bits
 before-requires-clause-bits g c = c.look_at-look.ensures.bits
 
 pub before-requires-clause-fetched : goal.before-requires-clause-fetched
-before-requires-clause-fetched g c = λ r. (c.look_at-look.ensures.look r [] []).1.0
+before-requires-clause-fetched g c = λ r. sym (c.look_at-look.ensures.fetched r)
+
+pub step_told-requires : goal.step_told-requires
+step_told-requires g c = c.look_at-look.ensures.fetched
 
 pub loop-remaining-init : goal.loop-remaining-init
 loop-remaining-init g c = record {
@@ -71,6 +77,7 @@ loop-remaining-preserved g c =
     let m0 : Mem = held_pages c.args.machine.now.memory in
     let m : Mem = held_pages c.loop-remaining.machine.memory in
     let m' : Mem = held_pages c.step_told.new.memory in
+    let stood : Fetched = spelled_at some_reader c.look_at-look.result.bits in
     let far = c.loop-remaining.invariant.so_far in
     let more = c.in-Ok-Went.ensures.steps in
     record {
@@ -85,13 +92,13 @@ loop-remaining-preserved g c =
           went_on r (last_state r) (last-on r) c.args.limit c.loop-remaining.remaining start m0 before after c.loop-remaining.machine.hart m far.0 more.0 far.1 more.1 more.2 (far.4 r).1
               (c.loop-remaining.remaining - 1) c.step_told.new.hart m' is (stepped_as _ _ more.0 more.1 _ (step r) (hart_of c.loop-remaining.machine.hart) (hart_of c.step_told.new.hart) m m' c.in-Ok-Went.field-0-is (more.5 r)),
         ),
-        far.5 ++ (event_as c.went_on-event.result m' ∷ []),
-        seen_more g.T.Watcher.has_seen _ _ _ _ far.5 _ far.6 c.in-Ok.ensures.kept c.in-Ok-after.ensures.told,
+        far.5 ++ (event_by stood c.went_on-step.result c.step_told.new.hart m' ∷ []),
+        seen_more g.T.Watcher.has_seen _ _ _ _ far.5 _ far.6 c.in-Ok.ensures.kept (c.in-Ok-after.ensures.told stood (λ r. ap (λ (l : Look). spelled_at r l.bits) c.went_on-step.ensures.look ∙ spelled_same r some_reader c.look_at-look.result.bits)),
         λ r.
             told_on r far.5 c.args.limit c.loop-remaining.remaining start m0 before after c.loop-remaining.machine.hart m far.0 more.0 far.1 more.2 (far.7 r) more.1
-            (c.loop-remaining.remaining - 1) (event_as c.went_on-event.result m') c.step_told.new.hart m' is
-            (λ others follows. c.went_on-event.ensures (fetch r m c.loop-remaining.machine.hart.pc) (hart_of c.loop-remaining.machine.hart (more.0 ++ others) far.1) m others (far.1 ++ more.1) m'
-            (c.look_at-look.ensures.look r (more.0 ++ others) far.1) ((stepped_as _ _ more.0 more.1 _ (step r) (hart_of c.loop-remaining.machine.hart) (hart_of c.step_told.new.hart) m m' c.in-Ok-Went.field-0-is (more.5 r)) others far.1 follows)
+            (c.loop-remaining.remaining - 1) (event_by stood c.went_on-step.result c.step_told.new.hart m') c.step_told.new.hart m' is
+            (λ others follows. ap (λ (f : Fetched). event_by f c.went_on-step.result c.step_told.new.hart m') (spelled_same some_reader r c.look_at-look.result.bits ∙ sym (c.look_at-look.ensures.fetched r)) ∙ c.went_on-step.ensures.event (fetch r m c.loop-remaining.machine.hart.pc) (hart_of c.loop-remaining.machine.hart (more.0 ++ others) far.1) m c.step_told.new.hart others (far.1 ++ more.1) m' c.look_at-look.ensures.pc
+            (seen_in _ _ _ _ _ m c.in-Ok-Went.field-0-is refl (c.in-Ok-Went.ensures.seen r (more.0 ++ others) far.1)) ((stepped_as _ _ more.0 more.1 _ (step r) (hart_of c.loop-remaining.machine.hart) (hart_of c.step_told.new.hart) m m' c.in-Ok-Went.field-0-is (more.5 r)) others far.1 follows)
             (moved_between c.in-Ok-Went.moved more.0 others far.1 more.1 m' (moved_as _ _ more.0 more.1 m' c.in-Ok-Went.field-0-is more.4)))
             (stepped_as _ _ more.0 more.1 _ (step r) (hart_of c.loop-remaining.machine.hart) (hart_of c.step_told.new.hart) m m' c.in-Ok-Went.field-0-is (more.5 r)),
         suc far.8,
@@ -112,11 +119,12 @@ returns-in-Err-after-clause-runs g c =
     let m0 : Mem = held_pages c.args.machine.now.memory in
     let m : Mem = held_pages c.loop-remaining.machine.memory in
     let m' : Mem = held_pages c.step_told.new.memory in
+    let stood : Fetched = spelled_at some_reader c.look_at-look.result.bits in
     let far = c.loop-remaining.invariant.so_far in
     let more = c.in-Ok-Went.ensures.steps in (
       far.0 ++ more.0,
       far.1 ++ more.1,
-      far.5 ++ (event_as c.went_on-event.result m' ∷ []),
+      far.5 ++ (event_by stood c.went_on-step.result c.step_told.new.hart m' ∷ []),
       has_read_more first before after far.0 more.0 far.2 more.2,
       Appends-trans _ _ _ far.1 more.1 far.3 more.3,
       tt,
@@ -125,9 +133,9 @@ returns-in-Err-after-clause-runs g c =
           (went_on r (run r) (run-on r) c.args.limit c.loop-remaining.remaining start m0 before after c.loop-remaining.machine.hart m far.0 more.0 far.1 more.1 more.2 (far.4 r).0
           (c.loop-remaining.remaining - 1) c.step_told.new.hart m' is (stepped_as _ _ more.0 more.1 _ (step r) (hart_of c.loop-remaining.machine.hart) (hart_of c.step_told.new.hart) m m' c.in-Ok-Went.field-0-is (more.5 r)))
           (told_on r far.5 c.args.limit c.loop-remaining.remaining start m0 before after c.loop-remaining.machine.hart m far.0 more.0 far.1 more.2 (far.7 r) more.1
-          (c.loop-remaining.remaining - 1) (event_as c.went_on-event.result m') c.step_told.new.hart m' is
-          (λ others follows. c.went_on-event.ensures (fetch r m c.loop-remaining.machine.hart.pc) (hart_of c.loop-remaining.machine.hart (more.0 ++ others) far.1) m others (far.1 ++ more.1) m'
-          (c.look_at-look.ensures.look r (more.0 ++ others) far.1) ((stepped_as _ _ more.0 more.1 _ (step r) (hart_of c.loop-remaining.machine.hart) (hart_of c.step_told.new.hart) m m' c.in-Ok-Went.field-0-is (more.5 r)) others far.1 follows)
+          (c.loop-remaining.remaining - 1) (event_by stood c.went_on-step.result c.step_told.new.hart m') c.step_told.new.hart m' is
+          (λ others follows. ap (λ (f : Fetched). event_by f c.went_on-step.result c.step_told.new.hart m') (spelled_same some_reader r c.look_at-look.result.bits ∙ sym (c.look_at-look.ensures.fetched r)) ∙ c.went_on-step.ensures.event (fetch r m c.loop-remaining.machine.hart.pc) (hart_of c.loop-remaining.machine.hart (more.0 ++ others) far.1) m c.step_told.new.hart others (far.1 ++ more.1) m' c.look_at-look.ensures.pc
+          (seen_in _ _ _ _ _ m c.in-Ok-Went.field-0-is refl (c.in-Ok-Went.ensures.seen r (more.0 ++ others) far.1)) ((stepped_as _ _ more.0 more.1 _ (step r) (hart_of c.loop-remaining.machine.hart) (hart_of c.step_told.new.hart) m m' c.in-Ok-Went.field-0-is (more.5 r)) others far.1 follows)
           (moved_between c.in-Ok-Went.moved more.0 others far.1 more.1 m' (moved_as _ _ more.0 more.1 m' c.in-Ok-Went.field-0-is more.4)))
           (stepped_as _ _ more.0 more.1 _ (step r) (hart_of c.loop-remaining.machine.hart) (hart_of c.step_told.new.hart) m m' c.in-Ok-Went.field-0-is (more.5 r))) rest may in
           (front.0, front.1, (suc far.8, omega (arith, far.9, is), reaches_next r far.8 start m0 before after c.loop-remaining.machine.hart c.step_told.new.hart m m' far.0 more.0 far.1 more.1 more.2 (far.10 r) (stepped_as _ _ more.0 more.1 _ (step r) (hart_of c.loop-remaining.machine.hart) (hart_of c.step_told.new.hart) m m' c.in-Ok-Went.field-0-is (more.5 r)) rest may)),
@@ -143,14 +151,15 @@ returns-in-Ok-after-2-clause-runs g c =
     let m0 : Mem = held_pages c.args.machine.now.memory in
     let m : Mem = held_pages c.loop-remaining.machine.memory in
     let m' : Mem = held_pages c.step_told.new.memory in
+    let stood : Fetched = spelled_at some_reader c.look_at-look.result.bits in
     let far = c.loop-remaining.invariant.so_far in
     let more = c.in-Ok-Ended.ensures.steps in (
       far.0 ++ more.0,
       far.1 ++ more.1,
-      far.5 ++ (event_as c.ended-event.result m' ∷ []),
+      far.5 ++ (event_by stood c.ended-step.result c.step_told.new.hart m' ∷ []),
       has_read_more first before after far.0 more.0 far.2 more.2,
       Appends-trans _ _ _ far.1 more.1 far.3 more.3,
-      seen_more g.T.Watcher.has_seen _ _ _ _ far.5 _ far.6 c.in-Ok.ensures.kept c.in-Ok-after-2.ensures.told,
+      seen_more g.T.Watcher.has_seen _ _ _ _ far.5 _ far.6 c.in-Ok.ensures.kept (c.in-Ok-after-2.ensures.told stood (λ r. ap (λ (l : Look). spelled_at r l.bits) c.ended-step.ensures.look ∙ spelled_same r some_reader c.look_at-look.result.bits)),
       λ r rest may.
           let over = stepped_as _ _ more.0 more.1 _ (step r) (hart_of c.loop-remaining.machine.hart) (hart_of c.step_told.new.hart) m m' c.in-Ok-Ended.field-0-is (more.5 r) in (
             came_to r c.args.limit c.loop-remaining.remaining start m0 before after c.loop-remaining.machine.hart m far.0 more.0 far.1 more.1 more.2 (far.4 r).0
@@ -158,8 +167,8 @@ returns-in-Ok-after-2-clause-runs g c =
             rests_at r c.args.limit c.loop-remaining.remaining start m0 before after c.loop-remaining.machine.hart m far.0 more.0 far.1 more.1 more.2 (far.4 r).1
                 (c.loop-remaining.remaining - 1) c.in-Ok-Ended.end c.step_told.new.hart m' is over.0 over.1.0 over.1.1 rest may,
             told_over r far.5 c.args.limit c.loop-remaining.remaining start m0 before after c.loop-remaining.machine.hart m far.0 more.0 far.1 more.2 (far.7 r)
-                (c.loop-remaining.remaining - 1) (event_as c.ended-event.result m') (law_end c.in-Ok-Ended.end) is
-                (λ others follows. c.ended-event.ensures (fetch r m c.loop-remaining.machine.hart.pc) (hart_of c.loop-remaining.machine.hart (more.0 ++ others) far.1) m m' (c.look_at-look.ensures.look r (more.0 ++ others) far.1) (over.1.1 (more.0 ++ others) far.1).0)
+                (c.loop-remaining.remaining - 1) (event_by stood c.ended-step.result c.step_told.new.hart m') (law_end c.in-Ok-Ended.end) is
+                (λ others follows. ap (λ (f : Fetched). event_by f c.ended-step.result c.step_told.new.hart m') (spelled_same some_reader r c.look_at-look.result.bits ∙ sym (c.look_at-look.ensures.fetched r)) ∙ c.ended-step.ensures.event (fetch r m c.loop-remaining.machine.hart.pc) (hart_of c.loop-remaining.machine.hart (more.0 ++ others) far.1) m c.step_told.new.hart m' c.look_at-look.ensures.pc (over.1.1 (more.0 ++ others) far.1).0)
                 (λ input console. (over.1.1 input console).0) rest may,
           ),
     )
