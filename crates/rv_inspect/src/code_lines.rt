@@ -170,7 +170,11 @@ fn next_stop(code: &Code<'_>, offset: usize) -> usize {
 }
 
 /// Adds the line of what is next.
-fn put_code(text: &mut Vec<u8>, code: &Code<'_>, cursor: &mut Cursor<'_>) -> Result<(), AllocError> {
+fn put_code(
+    text: &mut Vec<u8>,
+    code: &Code<'_>,
+    cursor: &mut Cursor<'_>,
+) -> Result<(), AllocError> {
     let offset = cursor.offset;
     let bytes = code.bytes.get(offset..).unwrap_or(b"");
     let inside = bytes

@@ -62,9 +62,11 @@ impl<'a> LineNumbers<'a> {
 
     /// What is known of an address.
     pub(crate) fn at(&self, address: u64) -> Option<NumberedCode<'a>> {
-        let passed = self.rows.partition_point(|code| code.row.address <= address);
+        let passed = self
+            .rows
+            .partition_point(|code| code.row.address <= address);
         let code = self.rows.get(passed.checked_sub(1)?)?;
-        if address - code.row.address < code.row.bytes {
+        if address.checked_sub(code.row.address)? < code.row.bytes {
             Some(*code)
         } else {
             None
