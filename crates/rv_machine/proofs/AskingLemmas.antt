@@ -1,14 +1,15 @@
 -- What code asks, by what it spells, and what is seen of its step.
 
-use Rattle.std.proofs.Common.{◌≡◌, ◌≢◌, ℕ, ◌%◌, List, true, false, ◌⊎◌, inl, inr, refl, sym, ap, ◌∙◌, subst, arith}
-use Rattle.std.specs.Prelude.{◌==◌, Bool, if◌then◌else◌, Option, Some, None, Result, Ok}
+use Rattle.std.proofs.Common.{◌≡◌, ◌≢◌, ℕ, ◌*◌, ◌%◌, ◌^◌, List, true, false, ◌⊎◌, inl, inr, refl, sym, ap, ◌∙◌, subst, arith}
+use Rattle.std.specs.Prelude.{◌==◌, Bool, if◌then◌else◌, Option, Some, None, Result}
 use Rattle.std.proofs.lemmas.Bool.Decides.{nat_tests}
 use Rattle.rv_isa.specs.declared.instruction.Inst.{Inst}
 use Rattle.rv_isa_laws.specs.Word.{Spells}
 use Rattle.rv_parcel.specs.Parcel.{StandsFor}
-use Rattle.rv_isa_laws.specs.Memory.{Mem, Read, may, number_at}
+use Rattle.rv_isa_laws.specs.Memory.{Mem, Read, Write, may, number_at, with_number}
 use Rattle.rv_isa_laws.specs.Hart as laws
-use Rattle.rv_isa_laws.specs.Effect.{Effect, Goes, Next, On, Over, apply, load_refusal}
+use Rattle.rv_isa_laws.specs.Hart.{advanced}
+use Rattle.rv_isa_laws.specs.Effect.{Effect, Goes, Next, On, Over, apply, load_refusal, store_refusal}
 use Rattle.rv_isa_laws.specs.Meaning.{with_result}
 use Rattle.rv_isa_laws.specs.Reader.{Reader}
 use Rattle.rv_isa_laws.specs.Run.{Fetched, NoRight, NoInstruction, Got, spelled, done}
@@ -18,6 +19,7 @@ use Rattle.rv_event_laws.specs.Event.{access, asks, read_by, stored_by}
 use Rattle.rv_machine.specs.declared.action.Action.{Action}
 use Rattle.rv_machine.specs.declared.action.Action.TheVariants as is
 use Rattle.rv_machine.specs.declared.action.Load.{Load}
+use Rattle.rv_machine.specs.declared.action.Store.{Store}
 use Rattle.rv_machine.specs.declared.asking.Asked.{Asked}
 use Rattle.rv_machine.specs.declared.asking.Asked.TheVariants as code
 use Rattle.rv_machine.specs.declared.event.Accesses.{Accesses}
@@ -26,10 +28,10 @@ use Rattle.rv_machine.specs.Action.{effect_of, made}
 use Rattle.rv_machine.specs.Asked.{Asks, AsksByWord, AsksByParcel}
 use Rattle.rv_machine.specs.Fetch.{spelled_by, spelled_at}
 use Rattle.rv_machine.specs.Hart.{hart_of}
-use Rattle.rv_machine.specs.Seen.{AreSeen, HasSeen, IsSeen}
+use Rattle.rv_machine.specs.Seen.{AreSeen, HasMovedIn, HasSeenIn, IsSeen, no_accesses}
 use Rattle.rv_machine.specs.StreamSteps.{StepsTo}
 use Rattle.rv_machine.specs.declared.end.End.{End}
-use Rattle.rv_machine.specs.declared.event.Stepped.{Stepped}
+use Rattle.rv_machine.specs.declared.event.Moved.{Moved}
 use Rattle.rv_machine.specs.declared.running.RunFault.{RunFault}
 
 -- a reading, where something has to be by some
@@ -121,34 +123,53 @@ pub are_seen : (next : Next) (effect : Effect) (m : Mem) (seen : Accesses) (h' :
 are_seen next effect m seen h' m' goes are = subst (λ (n : Next). AreSeen n effect m seen) (sym goes) are
 
 -- an effect that touches no memory
-pub seen_goes : (effect : Effect) (hart hart' : Hart) (m : Mem) (input console : List ℕ) → effect ≡ Goes (hart_of hart' input console) →
-    IsSeen (Some (record { read = None; stored = None })) (apply effect m) effect hart m hart' m input console
-seen_goes effect hart hart' m input console goes =
-    subst (λ (e : Effect). IsSeen (Some (record { read = None; stored = None })) (apply e m) e hart m hart' m input console) (sym goes) (refl, (refl, refl))
+pub seen_goes : (effect : Effect) (seen : Accesses) (hart hart' : Hart) (m : Mem) (input console : List ℕ) → seen ≡ no_accesses → effect ≡ Goes (hart_of hart' input console) →
+    IsSeen true seen (apply effect m) effect hart m hart' m input console
+seen_goes effect seen hart hart' m input console none goes =
+    subst (λ (e : Effect). IsSeen true seen (apply e m) e hart m hart' m input console) (sym goes)
+    (refl, (ap (λ (s : Accesses). s.read) none, ap (λ (s : Accesses). s.stored) none))
 
 -- a load
-pub seen_load : (x : Load) (bytes : ℕ) (hart hart' : Hart) (m : Mem) (input console : List ℕ) (number value : ℕ) → may m x.address x.bytes Read ≡ true → number ≡ number_at m x.address x.bytes → value ≡ made x.signed x.bytes (number_at m x.address x.bytes) →
+pub seen_load : (x : Load) (bytes : ℕ) (old seen : Accesses) (hart hart' : Hart) (m : Mem) (input console : List ℕ) (number value : ℕ) → old ≡ no_accesses → seen ≡ record old { read = Some (access x.address x.bytes number) } →
+    may m x.address x.bytes Read ≡ true → number ≡ number_at m x.address x.bytes → value ≡ made x.signed x.bytes (number_at m x.address x.bytes) →
     hart_of hart' input console ≡ with_result bytes (hart_of hart input console) x.rd value →
-    IsSeen (Some (record { read = Some (access x.address x.bytes number); stored = None })) (apply (effect_of (is.Load x) bytes (hart_of hart input console)) m) (effect_of (is.Load x) bytes (hart_of hart input console)) hart m hart' m input console
-seen_load x bytes hart hart' m input console number value may_read number_is value_is went =
+    IsSeen true seen (apply (effect_of (is.Load x) bytes (hart_of hart input console)) m) (effect_of (is.Load x) bytes (hart_of hart input console)) hart m hart' m input console
+seen_load x bytes old seen hart hart' m input console number value none put may_read number_is value_is went =
     let h : laws.Hart = hart_of hart input console in
     let n : ℕ = number_at m x.address x.bytes in
     let goes : apply (effect_of (is.Load x) bytes h) m ≡ On (hart_of hart' input console) m =
     ap (λ (b : Bool). if b then On (with_result bytes h x.rd (made x.signed x.bytes n)) m else Over (load_refusal m x.address x.bytes)) may_read
     ∙ ap (λ (v : ℕ). On (with_result bytes h x.rd v) m) (sym value_is)
     ∙ ap (λ (k : laws.Hart). On k m) (sym went) in
-    (goes, are_seen (apply (effect_of (is.Load x) bytes h) m) (effect_of (is.Load x) bytes h) m (record { read = Some (access x.address x.bytes number); stored = None }) (hart_of hart' input console) m goes (ap (λ (k : ℕ). Some (access x.address x.bytes k)) number_is, refl))
+    let read : seen.read ≡ Some (access x.address x.bytes n) = ap (λ (s : Accesses). s.read) put ∙ ap (λ (k : ℕ). Some (access x.address x.bytes k)) number_is in
+    let stored : seen.stored ≡ None = ap (λ (s : Accesses). s.stored) put ∙ ap (λ (s : Accesses). s.stored) none in
+    (goes, are_seen (apply (effect_of (is.Load x) bytes h) m) (effect_of (is.Load x) bytes h) m seen (hart_of hart' input console) m goes (read, stored))
+
+-- a store
+pub seen_store : (x : Store) (bytes : ℕ) (old seen : Accesses) (hart hart' : Hart) (m m' : Mem) (input console : List ℕ) (number : ℕ) → old ≡ no_accesses → seen ≡ record old { stored = Some (access x.address x.bytes number) } →
+    may m x.address x.bytes Write ≡ true → number ≡ x.value % 2 ^ (8 * x.bytes) → m' ≡ with_number m x.address x.bytes x.value →
+    hart_of hart' input console ≡ advanced (hart_of hart input console) bytes →
+    IsSeen true seen (apply (effect_of (is.Store x) bytes (hart_of hart input console)) m) (effect_of (is.Store x) bytes (hart_of hart input console)) hart m hart' m' input console
+seen_store x bytes old seen hart hart' m m' input console number none put may_write number_is memory went =
+    let h : laws.Hart = hart_of hart input console in
+    let goes : apply (effect_of (is.Store x) bytes h) m ≡ On (hart_of hart' input console) m' =
+    ap (λ (b : Bool). if b then On (advanced h bytes) (with_number m x.address x.bytes x.value) else Over (store_refusal m x.address x.bytes)) may_write
+    ∙ ap (λ (n : Mem). On (advanced h bytes) n) (sym memory)
+    ∙ ap (λ (k : laws.Hart). On k m') (sym went) in
+    let stored : seen.stored ≡ Some (access x.address x.bytes (x.value % 2 ^ (8 * x.bytes))) = ap (λ (s : Accesses). s.stored) put ∙ ap (λ (k : ℕ). Some (access x.address x.bytes k)) number_is in
+    let read : seen.read ≡ None = ap (λ (s : Accesses). s.read) put ∙ ap (λ (s : Accesses). s.read) none in
+    (goes, are_seen (apply (effect_of (is.Store x) bytes h) m) (effect_of (is.Store x) bytes h) m seen (hart_of hart' input console) m' goes (read, stored))
 
 -- what an action came to, of what was fetched
-pub seen_as : (seen : Option Accesses) (n k : Next) (e d : Effect) (hart hart' : Hart) (m m' : Mem) (input console : List ℕ) → n ≡ k → e ≡ d → IsSeen seen n e hart m hart' m' input console → IsSeen seen k d hart m hart' m' input console
-seen_as seen n k e d hart hart' m m' input console next effect is =
-    subst (λ (x : Next). IsSeen seen x d hart m hart' m' input console) next (subst (λ (x : Effect). IsSeen seen n x hart m hart' m' input console) effect is)
+pub seen_as : (did : Bool) (seen : Accesses) (n k : Next) (e d : Effect) (hart hart' : Hart) (m m' : Mem) (input console : List ℕ) → n ≡ k → e ≡ d → IsSeen did seen n e hart m hart' m' input console → IsSeen did seen k d hart m hart' m' input console
+seen_as did seen n k e d hart hart' m m' input console next effect is =
+    subst (λ (x : Next). IsSeen did seen x d hart m hart' m' input console) next (subst (λ (x : Effect). IsSeen did seen n x hart m hart' m' input console) effect is)
 
-pub seen_of : (seen : Option Accesses) (f : Fetched) (action : Action) (bytes : ℕ) (hart hart' : Hart) (m m' : Mem) (input console : List ℕ) → Asks f hart (code.Got action bytes) →
-    IsSeen seen (apply (effect_of action bytes (hart_of hart input console)) m) (effect_of action bytes (hart_of hart input console)) hart m hart' m' input console →
-    IsSeen seen (done f (hart_of hart input console) m) (asks f (hart_of hart input console)) hart m hart' m' input console
-seen_of seen f action bytes hart hart' m m' input console are is =
-    seen_as seen _ _ _ _ hart hart' m m' input console (asked_step f hart action bytes input console m are) (sym (asked_effect f hart action bytes input console are)) is
+pub seen_of : (did : Bool) (seen : Accesses) (f : Fetched) (action : Action) (bytes : ℕ) (hart hart' : Hart) (m m' : Mem) (input console : List ℕ) → Asks f hart (code.Got action bytes) →
+    IsSeen did seen (apply (effect_of action bytes (hart_of hart input console)) m) (effect_of action bytes (hart_of hart input console)) hart m hart' m' input console →
+    IsSeen did seen (done f (hart_of hart input console) m) (asks f (hart_of hart input console)) hart m hart' m' input console
+seen_of did seen f action bytes hart hart' m m' input console are is =
+    seen_as did seen _ _ _ _ hart hart' m m' input console (asked_step f hart action bytes input console m are) (sym (asked_effect f hart action bytes input console are)) is
 
 -- a step from the same hart and memory
 pub steps_from : (result : Result (Option End) RunFault) (read written : List ℕ) (going : Type 0) (step : laws.Hart → Mem → Next) (hart k hart' : Hart) (m n m' : Mem) → k ≡ hart → n ≡ m →
@@ -157,7 +178,9 @@ steps_from result read written going step hart k hart' m n m' same memory is =
     subst (λ (x : Mem). StepsTo result read written going step (hart_of hart) x (hart_of hart') m') memory
     (subst (λ (x : Hart). StepsTo result read written going step (hart_of x) n (hart_of hart') m') same is)
 
--- what was asked was seen
-pub seen_in : (s t : Stepped) (n k : Next) (e : Effect) (m : Mem) → s ≡ t → n ≡ k → HasSeen {E = RunFault} (Ok s) n e m → HasSeen {E = RunFault} (Ok t) k e m
-seen_in s t n k e m is next has =
-    subst (λ (x : Next). HasSeen {E = RunFault} (Ok t) x e m) next (subst (λ (x : Stepped). HasSeen {E = RunFault} (Ok x) n e m) is has)
+-- what was moved and seen, of a step that went on
+pub moved_in : (result ended : Result (Option End) RunFault) (moved : Moved) (read written : List ℕ) (m : Mem) → result ≡ ended → HasMovedIn result moved read written m → HasMovedIn ended moved read written m
+moved_in result ended moved read written m is has = subst (λ (x : Result (Option End) RunFault). HasMovedIn x moved read written m) is has
+
+pub seen_in : (result ended : Result (Option End) RunFault) (seen : Accesses) (n : Next) (e : Effect) (m : Mem) → result ≡ ended → HasSeenIn result seen n e m → HasSeenIn ended seen n e m
+seen_in result ended seen n e m is has = subst (λ (x : Result (Option End) RunFault). HasSeenIn x seen n e m) is has

@@ -1,6 +1,6 @@
 -- The events of the code as those of the definitions.
 
-use Rattle.std.specs.Prelude.{◌≡◌, ℕ, List, Option, Some, None, Result, Ok, Err}
+use Rattle.std.specs.Prelude.{◌≡◌, ℕ, Bool, true, false, List, Option, Some, None, Result, Ok, Err}
 use Rattle.rv_isa_laws.specs.Memory.{Mem, bytes_at}
 use Rattle.rv_isa_laws.specs.Hart as laws
 use Rattle.rv_isa_laws.specs.Effect.{Effect, Next, On, Over}
@@ -68,13 +68,21 @@ AreSeen (On h' m') effect m seen =
     (seen.read ≡ read_by effect m) × (seen.stored ≡ stored_by effect m)
 AreSeen (Over e) effect m seen = Unit {0}
 
+abbrev pub no_accesses : Accesses
+no_accesses = record { read = None; stored = None }
+
+abbrev pub nothing_moved : Moved
+nothing_moved =
+    let none : Span = record { address = 0; count = 0 } in
+    record { taken = none; put = none }
+
 -- a step that comes to this was done from this hart and memory m, which are hart' and m' by now, by
 -- this input and console, and this is what it read and wrote; or it was not, and nothing has changed
-abbrev pub IsSeen : Option Accesses → Next → Effect → Hart → Mem → Hart → Mem → List ℕ → List ℕ →
+abbrev pub IsSeen : Bool → Accesses → Next → Effect → Hart → Mem → Hart → Mem → List ℕ → List ℕ →
     Type 0
-IsSeen (Some seen) next effect hart m hart' m' input console =
+IsSeen true seen next effect hart m hart' m' input console =
     (next ≡ On (hart_of hart' input console) m') × AreSeen next effect m seen
-IsSeen None next effect hart m hart' m' input console = (hart' ≡ hart) × (m' ≡ m)
+IsSeen false seen next effect hart m hart' m' input console = (hart' ≡ hart) × (m' ≡ m)
 
 -- how a step ended the run, if it did
 abbrev pub ended_in : {E : Type 0} → Result Stepped E → Result (Option End) E
@@ -90,6 +98,17 @@ abbrev pub HasMoved : {E : Type 0} → Result Stepped E → List ℕ → List �
 HasMoved (Ok (Went accesses moved)) read written m = AreMoved moved read written m
 HasMoved (Ok (Ended e)) read written m = Unit {0}
 HasMoved (Err e) read written m = Unit {0}
+
+-- the same of a step that went on, where these bytes were moved, and this read and written
+abbrev pub HasMovedIn : {E : Type 0} → Result (Option End) E → Moved → List ℕ → List ℕ → Mem → Type 0
+HasMovedIn (Ok None) moved read written m = AreMoved moved read written m
+HasMovedIn (Ok (Some e)) moved read written m = Unit {0}
+HasMovedIn (Err e) moved read written m = Unit {0}
+
+abbrev pub HasSeenIn : {E : Type 0} → Result (Option End) E → Accesses → Next → Effect → Mem → Type 0
+HasSeenIn (Ok None) seen next effect m = AreSeen next effect m seen
+HasSeenIn (Ok (Some e)) seen next effect m = Unit {0}
+HasSeenIn (Err e) seen next effect m = Unit {0}
 
 -- what a step read and wrote, if it went on
 abbrev pub HasSeen : {E : Type 0} → Result Stepped E → Next → Effect → Mem → Type 0

@@ -15,7 +15,7 @@ ghost use Rattle.rv_event_laws.specs.Event.{asks};
 ghost use Rattle.rv_machine.specs.Action.{effect_of, HasWidth, made};
 ghost use Rattle.rv_machine.specs.Fetch.{spelled_at, spelled_by};
 ghost use Rattle.rv_machine.specs.Hart.{hart_of};
-ghost use Rattle.rv_machine.specs.Seen.{IsSeen};
+ghost use Rattle.rv_machine.specs.Seen.{IsSeen, no_accesses};
 ghost use Rattle.rv_machine.specs.declared.action.Action.TheVariants as is;
 ghost use Rattle.rv_memory.specs.Rights.{IsWidth};
 
@@ -75,138 +75,155 @@ fn read_loaded<M: Memory>(memory: &M, address: u64, bytes: u64, signed: bool) ->
     }
 }
 
-/// Does a load; nothing where its bytes may not be read.
+/// Does a load, if its bytes may be read; whether they may.
 #[inline(always)]
-fn load<M: Memory>(hart: &mut Hart, memory: &M, x: Load, bytes: u64) -> Option<Accesses>
-    requires { IsWidth x.bytes }
+fn load<M: Memory>(
+    accesses: &mut Accesses,
+    hart: &mut Hart,
+    memory: &M,
+    x: Load,
+    bytes: u64,
+) -> bool
+    requires width { IsWidth x.bytes }
+    requires none { accesses.old ≡ no_accesses }
     ensures { (input console : List ℕ) →
         let before = hart_of hart.old input console in
         let effect = effect_of (is.Load x) bytes before in
-        IsSeen result (apply effect (M.mem memory.now)) effect hart.old (M.mem memory.now)
+        IsSeen result accesses.new (apply effect (M.mem memory.now)) effect hart.old (M.mem memory.now)
         hart.new (M.mem memory.now) input console }
 {
-    let loaded = read_loaded(memory, x.address, x.bytes, x.signed)?;
+    let Some(loaded) = read_loaded(memory, x.address, x.bytes, x.signed) else {
+        return false;
+    };
     access::set(hart, x.rd, loaded.value, bytes);
-    Some(Accesses {
-        read: Some(Access {
-            address: x.address,
-            bytes: x.bytes,
-            number: loaded.number,
-        }),
-        stored: None,
-    })
+    accesses.read = Some(Access {
+        address: x.address,
+        bytes: x.bytes,
+        number: loaded.number,
+    });
+    true
 }
 
-/// Does a store; nothing where its bytes may not be written.
+/// Does a store, if its bytes may be written; whether they may.
 #[inline(always)]
-fn store<M: Memory>(hart: &mut Hart, memory: &mut M, x: Store, bytes: u64) -> Option<Accesses>
-    requires { IsWidth x.bytes }
+fn store<M: Memory>(
+    accesses: &mut Accesses,
+    hart: &mut Hart,
+    memory: &mut M,
+    x: Store,
+    bytes: u64,
+) -> bool
+    requires width { IsWidth x.bytes }
+    requires none { accesses.old ≡ no_accesses }
     ensures { (input console : List ℕ) →
         let before = hart_of hart.old input console in
         let effect = effect_of (is.Store x) bytes before in
-        IsSeen result (apply effect (M.mem memory.old)) effect hart.old (M.mem memory.old)
+        IsSeen result accesses.new (apply effect (M.mem memory.old)) effect hart.old (M.mem memory.old)
         hart.new (M.mem memory.new) input console }
 {
     if !access::write(memory, x.address, x.bytes, x.value) {
-        return None;
+        return false;
     }
     hart.pc = hart.pc.wrapping_add(bytes);
-    Some(Accesses {
-        read: None,
-        stored: Some(Access {
-            address: x.address,
-            bytes: x.bytes,
-            number: low_bytes(x.value, x.bytes),
-        }),
-    })
+    accesses.stored = Some(Access {
+        address: x.address,
+        bytes: x.bytes,
+        number: low_bytes(x.value, x.bytes),
+    });
+    true
 }
 
-/// Does what an instruction of `BYTES` bytes asks, where that neither ends the run nor is an atomic or a call; else
-/// nothing.
+/// Does what an instruction of `BYTES` bytes asks, if that neither ends the run nor is an atomic or a call; whether it did.
 #[inline(always)]
 fn goes_on<M: Memory, const BYTES: u64>(
     action: Action,
+    accesses: &mut Accesses,
     hart: &mut Hart,
     memory: &mut M,
-) -> Option<Accesses>
-    requires { HasWidth action }
+) -> bool
+    requires width { HasWidth action }
+    requires none { accesses.old ≡ no_accesses }
     ensures { (input console : List ℕ) →
         let before = hart_of hart.old input console in
         let effect = effect_of action BYTES before in
-        IsSeen result (apply effect (M.mem memory.old)) effect hart.old (M.mem memory.old)
+        IsSeen result accesses.new (apply effect (M.mem memory.old)) effect hart.old (M.mem memory.old)
         hart.new (M.mem memory.new) input console }
 {
     match action {
         Action::Set(rd, value) => {
             access::set(hart, rd, value, BYTES);
-            Some(Accesses::NONE)
+            true
         }
         Action::Jump(rd, target) => {
             access::jump(hart, rd, target, BYTES);
-            Some(Accesses::NONE)
+            true
         }
         Action::Go(target) => {
             hart.pc = target;
-            Some(Accesses::NONE)
+            true
         }
-        Action::Load(x) => load(hart, memory, x, BYTES),
-        Action::Store(x) => store(hart, memory, x, BYTES),
-        _ => None,
+        Action::Load(x) => load(accesses, hart, memory, x, BYTES),
+        Action::Store(x) => store(accesses, hart, memory, x, BYTES),
+        _ => false,
     }
 }
 
 #[inline(always)]
-fn by_word<M: Memory>(bits: u32, hart: &mut Hart, memory: &mut M) -> Option<Accesses>
-    requires { bits % 4 ≡ 3 }
+fn by_word<M: Memory>(bits: u32, accesses: &mut Accesses, hart: &mut Hart, memory: &mut M) -> bool
+    requires word { bits % 4 ≡ 3 }
+    requires none { accesses.old ≡ no_accesses }
     ensures { (reader : Reader Spells StandsFor) (input console : List ℕ) →
         let before = hart_of hart.old input console in
         let f = spelled_by reader bits in
-        IsSeen result (done f before (M.mem memory.old)) (asks f before) hart.old (M.mem memory.old)
+        IsSeen result accesses.new (done f before (M.mem memory.old)) (asks f before) hart.old (M.mem memory.old)
         hart.new (M.mem memory.new) input console }
 {
     match asked_by_word(bits, hart.pc, hart) {
-        Some(action) => goes_on::<M, 4>(action, hart, memory),
-        None => None,
+        Some(action) => goes_on::<M, 4>(action, accesses, hart, memory),
+        None => false,
     }
 }
 
 #[inline(always)]
-fn by_parcel<M: Memory>(bits: u32, hart: &mut Hart, memory: &mut M) -> Option<Accesses>
-    requires { bits % 4 ≢ 3 }
+fn by_parcel<M: Memory>(bits: u32, accesses: &mut Accesses, hart: &mut Hart, memory: &mut M) -> bool
+    requires parcel { bits % 4 ≢ 3 }
+    requires none { accesses.old ≡ no_accesses }
     ensures { (reader : Reader Spells StandsFor) (input console : List ℕ) →
         let before = hart_of hart.old input console in
         let f = spelled_by reader bits in
-        IsSeen result (done f before (M.mem memory.old)) (asks f before) hart.old (M.mem memory.old)
+        IsSeen result accesses.new (done f before (M.mem memory.old)) (asks f before) hart.old (M.mem memory.old)
         hart.new (M.mem memory.new) input console }
 {
     match asked_by_parcel((bits % 0x1_0000) as u16, hart.pc, hart) {
-        Some(action) => goes_on::<M, 2>(action, hart, memory),
-        None => None,
+        Some(action) => goes_on::<M, 2>(action, accesses, hart, memory),
+        None => false,
     }
 }
 
 /// Does the step of the instruction that these bits spell at a hart's address, if it goes on without the environment and is
-/// no atomic; else nothing.
+/// no atomic; whether it did. What it reads or writes is put where nothing stood.
 #[inline(never)]
 pub(crate) fn seen_step<M: Memory>(
     bits: Option<u32>,
+    accesses: &mut Accesses,
     hart: &mut Hart,
     memory: &mut M,
-) -> Option<Accesses>
+) -> bool
+    requires { accesses.old ≡ no_accesses }
     ensures { (reader : Reader Spells StandsFor) (input console : List ℕ) →
         let before = hart_of hart.old input console in
         let f = spelled_at reader bits in
-        IsSeen result (done f before (M.mem memory.old)) (asks f before) hart.old (M.mem memory.old)
+        IsSeen result accesses.new (done f before (M.mem memory.old)) (asks f before) hart.old (M.mem memory.old)
         hart.new (M.mem memory.new) input console }
 {
     match bits {
         Some(bits) => {
             if bits % 4 == 3 {
-                by_word(bits, hart, memory)
+                by_word(bits, accesses, hart, memory)
             } else {
-                by_parcel(bits, hart, memory)
+                by_parcel(bits, accesses, hart, memory)
             }
         }
-        None => None,
+        None => false,
     }
 }

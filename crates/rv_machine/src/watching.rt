@@ -23,7 +23,7 @@ ghost use Rattle.rv_machine.specs.Watching.{Shows, Unfailed, FailsIn};
 ghost use Rattle.rv_machine.specs.StreamSteps.{input_left, HasRead};
 
 use crate::end::End;
-use crate::event::{Step, Stepped};
+use crate::event::{Accesses, Moved, Step};
 use crate::fetch::{Look, look_at};
 use crate::hart::Hart;
 use crate::running::{Intake, RunFault};
@@ -217,15 +217,19 @@ pub fn run_watched<R: GuestIn, W: GuestOut, T: Watcher<Paged>>(
             Ok(()) => {}
             Err(fault) => return Err(WatchFault::Watcher(fault)),
         }
+        let mut accesses = Accesses::NONE;
+        let mut moved = Moved::NONE;
         match step_told(
             look.bits,
+            &mut accesses,
+            &mut moved,
             &mut machine.hart,
             &mut machine.memory,
             &mut machine.intake,
             reader,
             writer,
         ) {
-            Ok(Stepped::Went(accesses, moved)) => {
+            Ok(None) => {
                 remaining -= 1;
                 let step = Step::went_on(look, accesses, moved);
                 match watcher.after(&step, machine) {
@@ -233,7 +237,7 @@ pub fn run_watched<R: GuestIn, W: GuestOut, T: Watcher<Paged>>(
                     Err(fault) => return Err(WatchFault::Watcher(fault)),
                 }
             }
-            Ok(Stepped::Ended(end)) => {
+            Ok(Some(end)) => {
                 let step = Step::ended(look, end);
                 return match watcher.after(&step, machine) {
                     Ok(()) => Ok(end),

@@ -1,5 +1,7 @@
 use Rattle.std.proofs.Common.{◌≡◌, suc, ◌-◌, ℕ, List, [], ◌∷◌, ◌++◌, refl, sym, ap, ◌∙◌, subst, arith}
+use Rattle.std.specs.Prelude.{Option, Ok}
 use Rattle.std.proofs.lemmas.List.{append-nil}
+use Rattle.rv_machine.specs.declared.end.End.{End}
 use Rattle.rv_isa_laws.specs.Memory.{Mem}
 use Rattle.rv_memory.specs.HeldPages.{held_pages}
 use Rattle.rv_isa_laws.specs.Hart as laws
@@ -12,12 +14,12 @@ use Rattle.rv_machine.specs.declared.fetch.Look.{Look}
 use Rattle.rv_machine.specs.Fetch.{spelled_at}
 use Rattle.rv_machine.specs.Seen.{event_by}
 use Rattle.rv_machine.specs.StreamSteps.{Input, input_left}
-use Rattle.rv_machine.proofs.AskingLemmas.{seen_in, some_reader, spelled_same}
+use Rattle.rv_machine.proofs.AskingLemmas.{moved_in, seen_in, some_reader, spelled_same}
 use Rattle.rv_machine.proofs.EventLemmas.{told_on, told_over, told_front, fronts, seen_more}
 use Rattle.rv_machine.proofs.KnownLemmas.{has_read_none, has_read_more, appends_kept}
-use Rattle.rv_machine.proofs.MovedLemmas.{moved_as, moved_between, stepped_as}
+use Rattle.rv_machine.proofs.MovedLemmas.{moved_between}
 use Rattle.rv_machine.proofs.RunLemmas.{run-on, last-on}
-use Rattle.rv_machine.proofs.StreamLemmas.{went_on, came_to, rests_at, stopped, reaches_next}
+use Rattle.rv_machine.proofs.StreamLemmas.{went_on, came_to, rests_at, steps_as, stopped, reaches_next}
 use Rattle.rv_machine.proofs.watching.run_watched.Goals as goal
 use Rattle.std.proofs.KnownBytes.{Keeps-refl, Appends-trans}
 
@@ -30,8 +32,8 @@ before-requires-clause-bits g c = c.look_at-look.ensures.bits
 pub before-requires-clause-fetched : goal.before-requires-clause-fetched
 before-requires-clause-fetched g c = λ r. sym (c.look_at-look.ensures.fetched r)
 
-pub step_told-requires : goal.step_told-requires
-step_told-requires g c = c.look_at-look.ensures.fetched
+pub step_told-requires-clause-stands : goal.step_told-requires-clause-stands
+step_told-requires-clause-stands g c = c.look_at-look.ensures.fetched
 
 pub loop-remaining-init : goal.loop-remaining-init
 loop-remaining-init g c = record {
@@ -79,7 +81,7 @@ loop-remaining-preserved g c =
     let m' : Mem = held_pages c.step_told.new.memory in
     let stood : Fetched = spelled_at some_reader c.look_at-look.result.bits in
     let far = c.loop-remaining.invariant.so_far in
-    let more = c.in-Ok-Went.ensures.steps in
+    let more = c.in-Ok-None.ensures.steps in
     record {
       so_far = (
         far.0 ++ more.0,
@@ -88,9 +90,9 @@ loop-remaining-preserved g c =
         Appends-trans _ _ _ far.1 more.1 far.3 more.3,
         λ r. (
           went_on r (run r) (run-on r) c.args.limit c.loop-remaining.remaining start m0 before after c.loop-remaining.machine.hart m far.0 more.0 far.1 more.1 more.2 (far.4 r).0
-              (c.loop-remaining.remaining - 1) c.step_told.new.hart m' is (stepped_as _ _ more.0 more.1 _ (step r) (hart_of c.loop-remaining.machine.hart) (hart_of c.step_told.new.hart) m m' c.in-Ok-Went.field-0-is (more.5 r)),
+              (c.loop-remaining.remaining - 1) c.step_told.new.hart m' is (steps_as _ _ more.0 more.1 _ (step r) (hart_of c.loop-remaining.machine.hart) (hart_of c.step_told.new.hart) m m' c.in-Ok-None.field-0-is (more.5 r)),
           went_on r (last_state r) (last-on r) c.args.limit c.loop-remaining.remaining start m0 before after c.loop-remaining.machine.hart m far.0 more.0 far.1 more.1 more.2 (far.4 r).1
-              (c.loop-remaining.remaining - 1) c.step_told.new.hart m' is (stepped_as _ _ more.0 more.1 _ (step r) (hart_of c.loop-remaining.machine.hart) (hart_of c.step_told.new.hart) m m' c.in-Ok-Went.field-0-is (more.5 r)),
+              (c.loop-remaining.remaining - 1) c.step_told.new.hart m' is (steps_as _ _ more.0 more.1 _ (step r) (hart_of c.loop-remaining.machine.hart) (hart_of c.step_told.new.hart) m m' c.in-Ok-None.field-0-is (more.5 r)),
         ),
         far.5 ++ (event_by stood c.went_on-step.result c.step_told.new.hart m' ∷ []),
         seen_more g.T.Watcher.has_seen _ _ _ _ far.5 _ far.6 c.in-Ok.ensures.kept (c.in-Ok-after.ensures.told stood (λ r. ap (λ (l : Look). spelled_at r l.bits) c.went_on-step.ensures.look ∙ spelled_same r some_reader c.look_at-look.result.bits)),
@@ -98,15 +100,15 @@ loop-remaining-preserved g c =
             told_on r far.5 c.args.limit c.loop-remaining.remaining start m0 before after c.loop-remaining.machine.hart m far.0 more.0 far.1 more.2 (far.7 r) more.1
             (c.loop-remaining.remaining - 1) (event_by stood c.went_on-step.result c.step_told.new.hart m') c.step_told.new.hart m' is
             (λ others follows. ap (λ (f : Fetched). event_by f c.went_on-step.result c.step_told.new.hart m') (spelled_same some_reader r c.look_at-look.result.bits ∙ sym (c.look_at-look.ensures.fetched r)) ∙ c.went_on-step.ensures.event (fetch r m c.loop-remaining.machine.hart.pc) (hart_of c.loop-remaining.machine.hart (more.0 ++ others) far.1) m c.step_told.new.hart others (far.1 ++ more.1) m' c.look_at-look.ensures.pc
-            (seen_in _ _ _ _ _ m c.in-Ok-Went.field-0-is refl (c.in-Ok-Went.ensures.seen r (more.0 ++ others) far.1)) ((stepped_as _ _ more.0 more.1 _ (step r) (hart_of c.loop-remaining.machine.hart) (hart_of c.step_told.new.hart) m m' c.in-Ok-Went.field-0-is (more.5 r)) others far.1 follows)
-            (moved_between c.in-Ok-Went.moved more.0 others far.1 more.1 m' (moved_as _ _ more.0 more.1 m' c.in-Ok-Went.field-0-is more.4)))
-            (stepped_as _ _ more.0 more.1 _ (step r) (hart_of c.loop-remaining.machine.hart) (hart_of c.step_told.new.hart) m m' c.in-Ok-Went.field-0-is (more.5 r)),
+            (seen_in _ _ c.step_told.new.accesses _ _ m (ap (λ (o : Option End). Ok o) c.in-Ok-None.field-0-is) (c.in-Ok-None.ensures.seen r (more.0 ++ others) far.1)) ((steps_as _ _ more.0 more.1 _ (step r) (hart_of c.loop-remaining.machine.hart) (hart_of c.step_told.new.hart) m m' c.in-Ok-None.field-0-is (more.5 r)) others far.1 follows)
+            (moved_between c.step_told.new.moved more.0 others far.1 more.1 m' (moved_in _ _ c.step_told.new.moved more.0 more.1 m' (ap (λ (o : Option End). Ok o) c.in-Ok-None.field-0-is) more.4)))
+            (steps_as _ _ more.0 more.1 _ (step r) (hart_of c.loop-remaining.machine.hart) (hart_of c.step_told.new.hart) m m' c.in-Ok-None.field-0-is (more.5 r)),
         suc far.8,
         omega (arith, far.9, is),
-        λ r. reaches_next r far.8 start m0 before after c.loop-remaining.machine.hart c.step_told.new.hart m m' far.0 more.0 far.1 more.1 more.2 (far.10 r) (stepped_as _ _ more.0 more.1 _ (step r) (hart_of c.loop-remaining.machine.hart) (hart_of c.step_told.new.hart) m m' c.in-Ok-Went.field-0-is (more.5 r)),
+        λ r. reaches_next r far.8 start m0 before after c.loop-remaining.machine.hart c.step_told.new.hart m m' far.0 more.0 far.1 more.1 more.2 (far.10 r) (steps_as _ _ more.0 more.1 _ (step r) (hart_of c.loop-remaining.machine.hart) (hart_of c.step_told.new.hart) m m' c.in-Ok-None.field-0-is (more.5 r)),
       );
-      reader = c.in-Ok-Went.ensures.failed.0 ∙ c.loop-remaining.invariant.reader;
-      writer = c.in-Ok-Went.ensures.failed.1 ∙ c.loop-remaining.invariant.writer;
+      reader = c.in-Ok-None.ensures.failed.0 ∙ c.loop-remaining.invariant.reader;
+      writer = c.in-Ok-None.ensures.failed.1 ∙ c.loop-remaining.invariant.writer;
     }
 
 pub returns-in-Err-after-clause-runs : goal.returns-in-Err-after-clause-runs
@@ -121,7 +123,7 @@ returns-in-Err-after-clause-runs g c =
     let m' : Mem = held_pages c.step_told.new.memory in
     let stood : Fetched = spelled_at some_reader c.look_at-look.result.bits in
     let far = c.loop-remaining.invariant.so_far in
-    let more = c.in-Ok-Went.ensures.steps in (
+    let more = c.in-Ok-None.ensures.steps in (
       far.0 ++ more.0,
       far.1 ++ more.1,
       far.5 ++ (event_by stood c.went_on-step.result c.step_told.new.hart m' ∷ []),
@@ -131,14 +133,14 @@ returns-in-Err-after-clause-runs g c =
       λ r rest may.
           let front = fronts r _ c.args.limit (c.loop-remaining.remaining - 1) start m0 c.step_told.new.hart m' _ (far.0 ++ more.0) (far.1 ++ more.1)
           (went_on r (run r) (run-on r) c.args.limit c.loop-remaining.remaining start m0 before after c.loop-remaining.machine.hart m far.0 more.0 far.1 more.1 more.2 (far.4 r).0
-          (c.loop-remaining.remaining - 1) c.step_told.new.hart m' is (stepped_as _ _ more.0 more.1 _ (step r) (hart_of c.loop-remaining.machine.hart) (hart_of c.step_told.new.hart) m m' c.in-Ok-Went.field-0-is (more.5 r)))
+          (c.loop-remaining.remaining - 1) c.step_told.new.hart m' is (steps_as _ _ more.0 more.1 _ (step r) (hart_of c.loop-remaining.machine.hart) (hart_of c.step_told.new.hart) m m' c.in-Ok-None.field-0-is (more.5 r)))
           (told_on r far.5 c.args.limit c.loop-remaining.remaining start m0 before after c.loop-remaining.machine.hart m far.0 more.0 far.1 more.2 (far.7 r) more.1
           (c.loop-remaining.remaining - 1) (event_by stood c.went_on-step.result c.step_told.new.hart m') c.step_told.new.hart m' is
           (λ others follows. ap (λ (f : Fetched). event_by f c.went_on-step.result c.step_told.new.hart m') (spelled_same some_reader r c.look_at-look.result.bits ∙ sym (c.look_at-look.ensures.fetched r)) ∙ c.went_on-step.ensures.event (fetch r m c.loop-remaining.machine.hart.pc) (hart_of c.loop-remaining.machine.hart (more.0 ++ others) far.1) m c.step_told.new.hart others (far.1 ++ more.1) m' c.look_at-look.ensures.pc
-          (seen_in _ _ _ _ _ m c.in-Ok-Went.field-0-is refl (c.in-Ok-Went.ensures.seen r (more.0 ++ others) far.1)) ((stepped_as _ _ more.0 more.1 _ (step r) (hart_of c.loop-remaining.machine.hart) (hart_of c.step_told.new.hart) m m' c.in-Ok-Went.field-0-is (more.5 r)) others far.1 follows)
-          (moved_between c.in-Ok-Went.moved more.0 others far.1 more.1 m' (moved_as _ _ more.0 more.1 m' c.in-Ok-Went.field-0-is more.4)))
-          (stepped_as _ _ more.0 more.1 _ (step r) (hart_of c.loop-remaining.machine.hart) (hart_of c.step_told.new.hart) m m' c.in-Ok-Went.field-0-is (more.5 r))) rest may in
-          (front.0, front.1, (suc far.8, omega (arith, far.9, is), reaches_next r far.8 start m0 before after c.loop-remaining.machine.hart c.step_told.new.hart m m' far.0 more.0 far.1 more.1 more.2 (far.10 r) (stepped_as _ _ more.0 more.1 _ (step r) (hart_of c.loop-remaining.machine.hart) (hart_of c.step_told.new.hart) m m' c.in-Ok-Went.field-0-is (more.5 r)) rest may)),
+          (seen_in _ _ c.step_told.new.accesses _ _ m (ap (λ (o : Option End). Ok o) c.in-Ok-None.field-0-is) (c.in-Ok-None.ensures.seen r (more.0 ++ others) far.1)) ((steps_as _ _ more.0 more.1 _ (step r) (hart_of c.loop-remaining.machine.hart) (hart_of c.step_told.new.hart) m m' c.in-Ok-None.field-0-is (more.5 r)) others far.1 follows)
+          (moved_between c.step_told.new.moved more.0 others far.1 more.1 m' (moved_in _ _ c.step_told.new.moved more.0 more.1 m' (ap (λ (o : Option End). Ok o) c.in-Ok-None.field-0-is) more.4)))
+          (steps_as _ _ more.0 more.1 _ (step r) (hart_of c.loop-remaining.machine.hart) (hart_of c.step_told.new.hart) m m' c.in-Ok-None.field-0-is (more.5 r))) rest may in
+          (front.0, front.1, (suc far.8, omega (arith, far.9, is), reaches_next r far.8 start m0 before after c.loop-remaining.machine.hart c.step_told.new.hart m m' far.0 more.0 far.1 more.1 more.2 (far.10 r) (steps_as _ _ more.0 more.1 _ (step r) (hart_of c.loop-remaining.machine.hart) (hart_of c.step_told.new.hart) m m' c.in-Ok-None.field-0-is (more.5 r)) rest may)),
     )
 
 pub returns-in-Ok-after-2-clause-runs : goal.returns-in-Ok-after-2-clause-runs
@@ -153,7 +155,7 @@ returns-in-Ok-after-2-clause-runs g c =
     let m' : Mem = held_pages c.step_told.new.memory in
     let stood : Fetched = spelled_at some_reader c.look_at-look.result.bits in
     let far = c.loop-remaining.invariant.so_far in
-    let more = c.in-Ok-Ended.ensures.steps in (
+    let more = c.in-Ok-Some.ensures.steps in (
       far.0 ++ more.0,
       far.1 ++ more.1,
       far.5 ++ (event_by stood c.ended-step.result c.step_told.new.hart m' ∷ []),
@@ -161,13 +163,13 @@ returns-in-Ok-after-2-clause-runs g c =
       Appends-trans _ _ _ far.1 more.1 far.3 more.3,
       seen_more g.T.Watcher.has_seen _ _ _ _ far.5 _ far.6 c.in-Ok.ensures.kept (c.in-Ok-after-2.ensures.told stood (λ r. ap (λ (l : Look). spelled_at r l.bits) c.ended-step.ensures.look ∙ spelled_same r some_reader c.look_at-look.result.bits)),
       λ r rest may.
-          let over = stepped_as _ _ more.0 more.1 _ (step r) (hart_of c.loop-remaining.machine.hart) (hart_of c.step_told.new.hart) m m' c.in-Ok-Ended.field-0-is (more.5 r) in (
+          let over = steps_as _ _ more.0 more.1 _ (step r) (hart_of c.loop-remaining.machine.hart) (hart_of c.step_told.new.hart) m m' c.in-Ok-Some.field-0-is (more.5 r) in (
             came_to r c.args.limit c.loop-remaining.remaining start m0 before after c.loop-remaining.machine.hart m far.0 more.0 far.1 more.1 more.2 (far.4 r).0
-                (c.loop-remaining.remaining - 1) (law_end c.in-Ok-Ended.end) is over.0 over.1.0 (λ input console. (over.1.1 input console).0) rest may,
+                (c.loop-remaining.remaining - 1) (law_end c.in-Ok-Some.end) is over.0 over.1.0 (λ input console. (over.1.1 input console).0) rest may,
             rests_at r c.args.limit c.loop-remaining.remaining start m0 before after c.loop-remaining.machine.hart m far.0 more.0 far.1 more.1 more.2 (far.4 r).1
-                (c.loop-remaining.remaining - 1) c.in-Ok-Ended.end c.step_told.new.hart m' is over.0 over.1.0 over.1.1 rest may,
+                (c.loop-remaining.remaining - 1) c.in-Ok-Some.end c.step_told.new.hart m' is over.0 over.1.0 over.1.1 rest may,
             told_over r far.5 c.args.limit c.loop-remaining.remaining start m0 before after c.loop-remaining.machine.hart m far.0 more.0 far.1 more.2 (far.7 r)
-                (c.loop-remaining.remaining - 1) (event_by stood c.ended-step.result c.step_told.new.hart m') (law_end c.in-Ok-Ended.end) is
+                (c.loop-remaining.remaining - 1) (event_by stood c.ended-step.result c.step_told.new.hart m') (law_end c.in-Ok-Some.end) is
                 (λ others follows. ap (λ (f : Fetched). event_by f c.ended-step.result c.step_told.new.hart m') (spelled_same some_reader r c.look_at-look.result.bits ∙ sym (c.look_at-look.ensures.fetched r)) ∙ c.ended-step.ensures.event (fetch r m c.loop-remaining.machine.hart.pc) (hart_of c.loop-remaining.machine.hart (more.0 ++ others) far.1) m c.step_told.new.hart m' c.look_at-look.ensures.pc (over.1.1 (more.0 ++ others) far.1).0)
                 (λ input console. (over.1.1 input console).0) rest may,
           ),
@@ -184,7 +186,7 @@ returns-in-Err-after-2-clause-runs g c =
     let m : Mem = held_pages c.loop-remaining.machine.memory in
     let m' : Mem = held_pages c.step_told.new.memory in
     let far = c.loop-remaining.invariant.so_far in
-    let more = c.in-Ok-Ended.ensures.steps in (
+    let more = c.in-Ok-Some.ensures.steps in (
       far.0 ++ more.0,
       far.1 ++ more.1,
       far.5,
@@ -192,16 +194,16 @@ returns-in-Err-after-2-clause-runs g c =
       Appends-trans _ _ _ far.1 more.1 far.3 more.3,
       tt,
       λ r rest may.
-          let over = stepped_as _ _ more.0 more.1 _ (step r) (hart_of c.loop-remaining.machine.hart) (hart_of c.step_told.new.hart) m m' c.in-Ok-Ended.field-0-is (more.5 r) in
+          let over = steps_as _ _ more.0 more.1 _ (step r) (hart_of c.loop-remaining.machine.hart) (hart_of c.step_told.new.hart) m m' c.in-Ok-Some.field-0-is (more.5 r) in
           let outcome = came_to r c.args.limit c.loop-remaining.remaining start m0 before after c.loop-remaining.machine.hart m far.0 more.0 far.1 more.1 more.2 (far.4 r).0
-          (c.loop-remaining.remaining - 1) (law_end c.in-Ok-Ended.end) is over.0 over.1.0 (λ input console. (over.1.1 input console).0) rest may in (
+          (c.loop-remaining.remaining - 1) (law_end c.in-Ok-Some.end) is over.0 over.1.0 (λ input console. (over.1.1 input console).0) rest may in (
             record { rest = []; joined = append-nil _ ∙ sym (ap (λ (o : laws.Outcome). o.console) outcome) },
             told_front r far.5 c.args.limit c.loop-remaining.remaining start m0 before after c.loop-remaining.machine.hart m far.0 more.0 far.1 more.2 (far.7 r) rest may,
             (
               c.args.limit,
               omega arith,
               rests_at r c.args.limit c.loop-remaining.remaining start m0 before after c.loop-remaining.machine.hart m far.0 more.0 far.1 more.1 more.2 (far.4 r).1
-                  (c.loop-remaining.remaining - 1) c.in-Ok-Ended.end c.step_told.new.hart m' is over.0 over.1.0 over.1.1 rest may,
+                  (c.loop-remaining.remaining - 1) c.in-Ok-Some.end c.step_told.new.hart m' is over.0 over.1.0 over.1.1 rest may,
             ),
           ),
     )
