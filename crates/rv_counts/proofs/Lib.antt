@@ -4,8 +4,6 @@ pub mod TotalsLemmas
 pub mod CountedLemmas
 -- The sums over the rows of a table, with one event more.
 pub mod RowsLemmas
--- What `==` calls one instruction is one.
-pub mod SameLemmas
 -- The depth of the stack, with one event more.
 pub mod DepthLemmas
 -- All that is counted, with one event more.

@@ -1,11 +1,18 @@
 -- The rows of a table of instructions, and what they have of the events of a run.
 
-use Rattle.std.specs.Prelude.{◌≡◌, ℕ, ◌-◌, ◌<◌, ◌^◌, min, Bool, true, false, if◌then◌else◌, List, [], ◌∷◌, ◌++◌, length, ◌⊎◌, sum_by, set, slice_index_or}
+use Rattle.std.specs.Prelude.{◌≡◌, ℕ, ◌-◌, ◌<◌, ◌^◌, min, Bool, true, false, if◌then◌else◌, List, [], ◌∷◌, ◌++◌, All, length, ◌⊎◌, sum_by, set, slice_index_or, Option, Some}
 use Rattle.rv_isa.specs.declared.instruction.Inst.{Inst}
+use Rattle.rv_isa_laws.specs.Reader.{Reader}
 use Rattle.rv_isa_laws.specs.Run.{Fetched, Got, NoRight, NoInstruction}
+use Rattle.rv_isa_laws.specs.Word.{Spells}
+use Rattle.rv_parcel.specs.Parcel.{StandsFor}
+use Rattle.rv_machine.specs.Fetch.{fetched_of, spelled_at}
+use Rattle.rv_machine.specs.declared.fetch.Fetched.{Fetched as CodeFetched}
+use Rattle.rv_machine.specs.declared.fetch.Fetched.TheVariants as code
 use Rattle.rv_event_laws.specs.Event.{Event}
 use Rattle.rv_counts.specs.declared.rows.CountedInstruction.{CountedInstruction}
 use Rattle.rv_counts.specs.declared.rows.Done.{Done}
+use Rattle.rv_counts.specs.declared.rows.Found.{Found}
 use Rattle.rv_counts.specs.Counted.{executions, branches_taken, times_called, told_registers, ends_in_call}
 use Rattle.rv_counts.specs.Kinds.{more}
 use Rattle.rv_counts.specs.Totals.{one_if, totals_of}
@@ -34,10 +41,19 @@ pub record AreCounted (rows : List CountedInstruction) (seen : List Event) : Typ
   pub called :
       (test : ℕ → Inst → Bool) → sum_of test (λ row. row.calls) rows ≡ times_called test seen
 
+-- the instruction of each row is what its bits spell
+abbrev pub IsSpelled : CountedInstruction → Type 0
+IsSpelled row =
+    (r : Reader Spells StandsFor) → spelled_at r (Some row.bits) ≡ Got row.inst row.bytes
+
+abbrev pub AreSpelled : List CountedInstruction → Type 0
+AreSpelled rows = All IsSpelled rows
+
 -- all that is counted is of these events; a run has fewer than 2 ^ 64
 pub record HasCounted (sums : Totals) (rows : List CountedInstruction) (registers : List ℕ)
     (called : Bool) (depth : Depth) (seen : List Event) : Type 0 where
   pub totals : sums ≡ totals_of seen
+  pub spelled : AreSpelled rows
   pub counts : length seen < 2 ^ 64 → AreCounted rows seen
   pub told : registers ≡ told_registers seen
   pub call : called ≡ ends_in_call seen
@@ -64,15 +80,26 @@ branches_in rows =
 
 -- ---- one step
 
-abbrev pub no_row : ℕ → Inst → CountedInstruction
-no_row pc inst = record { pc = pc; inst = inst; count = 0; taken = 0; calls = 0 }
+abbrev pub no_row : (pc bits : ℕ) → Inst → (bytes : ℕ) → CountedInstruction
+no_row pc bits inst bytes =
+    record {
+      pc = pc;
+      bits = bits;
+      inst = inst;
+      bytes = bytes;
+      count = 0;
+      taken = 0;
+      calls = 0;
+    }
 
 -- a row with what a step did
 abbrev pub with_done : CountedInstruction → Done → CountedInstruction
 with_done row done =
     record {
       pc = row.pc;
+      bits = row.bits;
       inst = row.inst;
+      bytes = row.bytes;
       count = more row.count (one_if done.executed);
       taken = more row.taken (one_if done.taken);
       calls = more row.calls (one_if done.called);
@@ -87,7 +114,8 @@ pub record IsFound (before after : List CountedInstruction) (index pc : ℕ) (in
   pub stands : slice_index_or after index row ≡ row
   pub place : row.pc ≡ pc
   pub instruction : row.inst ≡ inst
-  pub kept : (after ≡ before) ⊎ (after ≡ before ++ (no_row pc inst ∷ []))
+  pub kept : (after ≡ before)
+      ⊎ ((bits bytes : ℕ) × (after ≡ before ++ (no_row pc bits inst bytes ∷ [])))
 
 -- what a step did at this instruction is counted, once
 pub record HasOneMore (before after : List CountedInstruction) (pc : ℕ) (inst : Inst)
@@ -102,3 +130,32 @@ abbrev pub IsNoted : (before after : List CountedInstruction) → ℕ → Fetche
 IsNoted before after pc (Got i bytes) done = HasOneMore before after pc i done
 IsNoted before after pc NoRight done = after ≡ before
 IsNoted before after pc NoInstruction done = after ≡ before
+
+-- ---- what is found at an address
+
+-- of an instruction its row, and else nothing
+abbrev pub IsRowOf : (before after : List CountedInstruction) → (index pc : ℕ) → CodeFetched → Type 0
+IsRowOf before after index pc (code.Got i bytes) = IsFound before after index pc i
+IsRowOf before after index pc code.NoRight = after ≡ before
+IsRowOf before after index pc code.NoInstruction = after ≡ before
+
+-- what these bits spell is found, with its row
+pub record IsPlaced (before after : List CountedInstruction) (pc : ℕ) (bits : Option ℕ)
+    (found : Found) : Type 0 where
+  pub place : IsRowOf before after found.index pc found.fetched
+  pub stands : (r : Reader Spells StandsFor) → fetched_of found.fetched ≡ spelled_at r bits
+  pub spelled : AreSpelled after
+
+-- an instruction's index is that of a row
+abbrev pub IsWithin : List CountedInstruction → ℕ → CodeFetched → Type 0
+IsWithin rows index (code.Got i bytes) = index < length rows
+IsWithin rows index code.NoRight = Unit {0}
+IsWithin rows index code.NoInstruction = Unit {0}
+
+-- what a step did is counted at the row of an instruction
+abbrev pub IsDoneAt : (before after : List CountedInstruction) → ℕ → CodeFetched → Done → Type 0
+IsDoneAt before after index (code.Got i bytes) done =
+    (row : CountedInstruction) → slice_index_or before index row ≡ row →
+    after ≡ set before index (with_done row done)
+IsDoneAt before after index code.NoRight done = after ≡ before
+IsDoneAt before after index code.NoInstruction done = after ≡ before

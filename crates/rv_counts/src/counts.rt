@@ -6,11 +6,12 @@
 ghost use Rattle.std.specs.Prelude.{◌≡◌, ◌&&◌, ◌<◌, ◌^◌, [], List, length, IfOk};
 ghost use Rattle.rv_isa_laws.specs.Memory.{Mem};
 ghost use Rattle.rv_machine.specs.Fetch.{fetched_of};
-ghost use Rattle.rv_machine.specs.Seen.{event_as};
-ghost use Rattle.rv_event_laws.specs.Event.{Event};
+ghost use Rattle.rv_machine.specs.declared.hart.Hart.{Hart as AHart};
+ghost use Rattle.rv_machine.specs.Seen.{event_by, set_of};
+ghost use Rattle.rv_event_laws.specs.Event.{Event, sets};
 ghost use Rattle.rv_counts.specs.Counted.{branches_taken, executions, has_executed, times_called};
 ghost use Rattle.rv_counts.specs.Depth.{deepest_of};
-ghost use Rattle.rv_counts.specs.Rows.{AreCounted, HasCounted, IsNoted, at_branch};
+ghost use Rattle.rv_counts.specs.Rows.{AreCounted, HasCounted, at_branch};
 ghost use Rattle.rv_counts.specs.Sums.{AreCalled, AreExecuted};
 
 use crate::addresses::ByAddress;
@@ -22,9 +23,10 @@ use crate::mnemonics::{MnemonicCount, mnemonics_of};
 use crate::registers::ToldRegisters;
 use crate::rows::{CountedInstruction, Done, Rows};
 use crate::totals::{Totals, is_executed};
+use rv_event_laws::Setting;
 use rv_image::Image;
 use rv_isa::Reg;
-use rv_machine::{Event as Told, Fetched, Look, ShowFault, Watched, Watcher};
+use rv_machine::{Fetched, Hart, Look, ShowFault, Step, Watched, Watcher, destination_of};
 use rv_memory::Memory;
 use std::alloc::{AllocError, Global};
 
@@ -122,17 +124,17 @@ impl Counts {
     }
 }
 
-/// What an event's instruction did; `branches` says whether it is a branch that is taken.
+/// What a step's instruction did; `branches` says whether it is a branch that is taken.
 #[inline]
-fn done_by(event: &Told, branches: bool, called: bool) -> Done
-    ensures { (m : Mem) → let e = event_as event.now m in
+fn done_by(step: &Step, fetched: &Fetched, branches: bool, called: bool) -> Done
+    ensures { (hart : AHart) (m : Mem) → let e = event_by (fetched_of fetched.now) step.now hart m in
         result ≡ record {
           executed = has_executed e;
           taken = has_executed e && branches;
           called = called;
         } }
 {
-    let executed = is_executed(event);
+    let executed = is_executed(step, fetched);
     Done {
         executed,
         taken: executed && branches,
@@ -140,14 +142,14 @@ fn done_by(event: &Told, branches: bool, called: bool) -> Done
     }
 }
 
-/// Counts what an event's instruction did at its row.
+/// The register that a step set, with its value.
 #[inline]
-fn note(rows: &mut Rows, event: &Told, done: Done) -> Result<(), AllocError>
-    ensures { IfOk result (λ _. IsNoted rows.old.rows.items rows.new.rows.items event.now.pc (fetched_of event.now.fetched) done) }
+fn set_by(step: &Step, fetched: &Fetched, hart: &Hart) -> Option<Setting>
+    ensures { result ≡ set_of step.now.end (sets (fetched_of fetched.now)) hart.now }
 {
-    match event.fetched {
-        Fetched::Got(inst, _) => rows.count(event.pc, inst, done),
-        Fetched::NoRight | Fetched::NoInstruction => Ok(()),
+    match *fetched {
+        Fetched::Got(inst, _) => step.set_in(destination_of(inst), hart),
+        Fetched::NoRight | Fetched::NoInstruction => None,
     }
 }
 
@@ -160,13 +162,15 @@ impl<M: Memory> Watcher<M> for Counts {
         Ok(())
     }
 
-    #[inline]
-    fn after(&mut self, event: &Told, _: &Watched<M>) -> Result<(), ShowFault> {
-        let turn = turn_at(event.fetched, &self.registers);
-        let done = done_by(event, turn.taken, self.called);
-        note(&mut self.rows, event, done)?;
-        self.totals = self.totals.with(event);
-        self.registers.set(event.set);
+    #[inline(always)]
+    fn after(&mut self, step: &Step, machine: &Watched<M>) -> Result<(), ShowFault> {
+        let found = self.rows.find(step.pc(), step.bits())?;
+        let turn = turn_at(&found.fetched, &self.registers);
+        let done = done_by(step, &found.fetched, turn.taken, self.called);
+        self.rows.count(&found, done);
+        self.totals.count(step, &found.fetched);
+        self.registers
+            .set(set_by(step, &found.fetched, machine.hart()));
         self.called = turn.calling;
         self.depth.note(turn.begun, self.registers.get(Reg::SP));
         Ok(())

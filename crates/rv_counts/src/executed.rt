@@ -4,7 +4,7 @@ ghost use Rattle.std.specs.Prelude.{◌≡◌, []};
 ghost use Rattle.rv_counts.specs.Totals.{totals_of};
 
 use crate::totals::Totals;
-use rv_machine::{Event, Look, ShowFault, Watched, Watcher};
+use rv_machine::{Look, ShowFault, Step, Watched, Watcher};
 use rv_memory::Memory;
 
 /// The number of the instructions that a run has executed.
@@ -40,8 +40,8 @@ impl<M: Memory> Watcher<M> for Executed {
     }
 
     #[inline]
-    fn after(&mut self, event: &Event, _: &Watched<M>) -> Result<(), ShowFault> {
-        self.totals = self.totals.with(event);
+    fn after(&mut self, step: &Step, _: &Watched<M>) -> Result<(), ShowFault> {
+        self.totals.count(step, &step.fetched());
         Ok(())
     }
 }

@@ -97,15 +97,15 @@ fn turn_of(inst: Inst, registers: &ToldRegisters) -> Turn
 
 /// That of what was fetched.
 #[inline]
-pub(crate) fn turn_at(fetched: Fetched, registers: &ToldRegisters) -> Turn
-    ensures { let f = fetched_of fetched in result
+pub(crate) fn turn_at(fetched: &Fetched, registers: &ToldRegisters) -> Turn
+    ensures { let f = fetched_of fetched.now in result
         ≡ record {
           taken = is_spelled (λ i. is_branching registers.now.values (format_of i)) f;
           calling = is_spelled (λ i. is_calling (format_of i)) f;
           begun = is_spelled (λ i. is_upper (format_of i)) f;
         } }
 {
-    match fetched {
+    match *fetched {
         Fetched::Got(inst, _) => turn_of(inst, registers),
         Fetched::NoRight | Fetched::NoInstruction => Turn::NONE,
     }

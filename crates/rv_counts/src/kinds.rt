@@ -69,40 +69,19 @@ impl Kinds {
         }
     }
 
-    /// With one more of a kind.
+    /// Counts one more of a kind.
     #[inline(always)]
-    pub(crate) fn with(self, kind: InstructionKind) -> Self
-        ensures { result ≡ with_kind self kind }
+    pub(crate) fn count(&mut self, kind: InstructionKind)
+        ensures { self.new ≡ with_kind self.old kind }
     {
         match kind {
-            InstructionKind::Arithmetic => Kinds {
-                arithmetic: self.arithmetic.saturating_add(1),
-                ..self
-            },
-            InstructionKind::Load => Kinds {
-                load: self.load.saturating_add(1),
-                ..self
-            },
-            InstructionKind::Store => Kinds {
-                store: self.store.saturating_add(1),
-                ..self
-            },
-            InstructionKind::Atomic => Kinds {
-                atomic: self.atomic.saturating_add(1),
-                ..self
-            },
-            InstructionKind::Branch => Kinds {
-                branch: self.branch.saturating_add(1),
-                ..self
-            },
-            InstructionKind::Jump => Kinds {
-                jump: self.jump.saturating_add(1),
-                ..self
-            },
-            InstructionKind::Other => Kinds {
-                other: self.other.saturating_add(1),
-                ..self
-            },
+            InstructionKind::Arithmetic => self.arithmetic = self.arithmetic.saturating_add(1),
+            InstructionKind::Load => self.load = self.load.saturating_add(1),
+            InstructionKind::Store => self.store = self.store.saturating_add(1),
+            InstructionKind::Atomic => self.atomic = self.atomic.saturating_add(1),
+            InstructionKind::Branch => self.branch = self.branch.saturating_add(1),
+            InstructionKind::Jump => self.jump = self.jump.saturating_add(1),
+            InstructionKind::Other => self.other = self.other.saturating_add(1),
         }
     }
 

@@ -4,7 +4,9 @@ ghost use Rattle.std.specs.Prelude.{◌≡◌, if◌then◌else◌};
 ghost use Rattle.rv_isa_laws.specs.Memory.{Mem};
 ghost use Rattle.rv_machine.specs.End.{law_end};
 ghost use Rattle.rv_machine.specs.Fetch.{fetched_of};
-ghost use Rattle.rv_machine.specs.Seen.{end_of, event_as};
+ghost use Rattle.rv_machine.specs.declared.hart.Hart.{Hart};
+ghost use Rattle.rv_machine.specs.Seen.{end_of, event_by};
+ghost use Rattle.rv_counts.specs.Kinds.{more};
 ghost use Rattle.rv_counts.specs.Totals.{
   is_executed as executed_of,
   is_meant as meant,
@@ -19,7 +21,7 @@ ghost use Rattle.rv_counts.specs.Totals.{
 
 use crate::kinds::{Kinds, kind_of};
 use rv_event_laws::Access;
-use rv_machine::{End, Event, Fetched};
+use rv_machine::{End, Fetched, Step};
 
 /// How many instructions were executed, and what they read and stored.
 #[derive(Clone, Copy, Drop)]
@@ -53,33 +55,45 @@ impl Totals {
         }
     }
 
-    /// Those with one event more.
+    /// Counts a step at what was fetched.
     #[inline(always)]
-    pub fn with(self, event: &Event) -> Self
-        ensures { (m : Mem) → result ≡ with_event self (event_as event.now m) }
+    pub fn count(&mut self, step: &Step, fetched: &Fetched)
+        ensures { (hart : Hart) (m : Mem) →
+            self.new ≡ with_event self.old (event_by (fetched_of fetched.now) step.now hart m) }
     {
-        let executed = is_executed(event);
-        let compressed = executed && is_compressed(event.fetched);
-        Totals {
-            executed: self.executed.saturating_add(one_if(executed)),
-            compressed: self.compressed.saturating_add(one_if(compressed)),
-            loads: self.loads.saturating_add(accesses(event.read)),
-            read: self.read.saturating_add(bytes_in(event.read)),
-            stores: self.stores.saturating_add(accesses(event.stored)),
-            written: self.written.saturating_add(bytes_in(event.stored)),
-            kinds: with_executed(self.kinds, executed, event.fetched),
-        }
+        let executed = is_executed(step, fetched);
+        let compressed = executed && is_compressed(fetched);
+        self.executed = self.executed.saturating_add(one_if(executed));
+        self.compressed = self.compressed.saturating_add(one_if(compressed));
+        count_kind(&mut self.kinds, executed, fetched);
+        let (loads, read) = with_access(self.loads, self.read, step.read());
+        self.loads = loads;
+        self.read = read;
+        let (stores, written) = with_access(self.stores, self.written, step.stored());
+        self.stores = stores;
+        self.written = written;
     }
 }
 
-/// Whether an event's instruction was executed: its step went on, or ended the run by what it means, and not by an access
-/// that failed.
-#[inline]
-pub(crate) fn is_executed(event: &Event) -> bool
-    ensures { result ≡ executed_of (fetched_of event.now.fetched) (end_of event.now.end) }
+/// How many accesses there were and how many bytes they had, with one more, if it is one.
+#[inline(always)]
+fn with_access(count: u64, bytes: u64, access: Option<Access>) -> (u64, u64)
+    ensures { result ≡ (more count (accesses_in access), more bytes (access_bytes access)) }
 {
-    match event.fetched {
-        Fetched::Got(_, _) => match event.end {
+    match access {
+        Some(access) => (count.saturating_add(1), bytes.saturating_add(access.bytes)),
+        None => (count, bytes),
+    }
+}
+
+/// Whether what was fetched was executed: its step went on, or ended the run by what it means, and not by an access that
+/// failed.
+#[inline(always)]
+pub(crate) fn is_executed(step: &Step, fetched: &Fetched) -> bool
+    ensures { result ≡ executed_of (fetched_of fetched.now) (end_of step.now.end) }
+{
+    match *fetched {
+        Fetched::Got(_, _) => match step.end() {
             None => true,
             Some(end) => is_meant(end),
         },
@@ -105,27 +119,27 @@ fn is_meant(end: End) -> bool
 }
 
 /// Whether what was fetched is a parcel.
-#[inline]
-fn is_compressed(fetched: Fetched) -> bool
-    ensures { result ≡ compressed_of (fetched_of fetched) }
+#[inline(always)]
+fn is_compressed(fetched: &Fetched) -> bool
+    ensures { result ≡ compressed_of (fetched_of fetched.now) }
 {
-    match fetched {
+    match *fetched {
         Fetched::Got(_, bytes) => bytes == 2,
         Fetched::NoRight | Fetched::NoInstruction => false,
     }
 }
 
-/// The kinds with that of what was fetched, where it was executed.
+/// Counts the kind of what was fetched, where it was executed.
 #[inline(always)]
-fn with_executed(kinds: Kinds, executed: bool, fetched: Fetched) -> Kinds
-    ensures { result ≡ if executed then with_kind_in (fetched_of fetched) kinds else kinds }
+fn count_kind(kinds: &mut Kinds, executed: bool, fetched: &Fetched)
+    ensures { kinds.new ≡ if executed then with_kind_in (fetched_of fetched.now) kinds.old else kinds.old }
 {
     if !executed {
-        return kinds;
+        return;
     }
-    match fetched {
-        Fetched::Got(inst, _) => kinds.with(kind_of(inst)),
-        Fetched::NoRight | Fetched::NoInstruction => kinds,
+    match *fetched {
+        Fetched::Got(inst, _) => kinds.count(kind_of(inst)),
+        Fetched::NoRight | Fetched::NoInstruction => {}
     }
 }
 
@@ -134,26 +148,4 @@ fn one_if(holds: bool) -> u64
     ensures { result ≡ number_if holds }
 {
     if holds { 1 } else { 0 }
-}
-
-/// How many accesses these are.
-#[inline]
-fn accesses(access: Option<Access>) -> u64
-    ensures { result ≡ accesses_in access }
-{
-    match access {
-        Some(_) => 1,
-        None => 0,
-    }
-}
-
-/// How many bytes they have.
-#[inline]
-fn bytes_in(access: Option<Access>) -> u64
-    ensures { result ≡ access_bytes access }
-{
-    match access {
-        Some(x) => x.bytes,
-        None => 0,
-    }
 }

@@ -1,4 +1,4 @@
-use Rattle.std.proofs.Common.{ℕ, List, ap, ◌∙◌}
+use Rattle.std.proofs.Common.{List, ap, ◌∙◌}
 use Rattle.std.proofs.lemmas.Result.{IfOk-weaker}
 use Rattle.rv_counts.specs.declared.rows.CountedInstruction.{CountedInstruction}
 use Rattle.rv_counts.specs.Rows.{sum_of}
