@@ -13,7 +13,9 @@ Of the sources that GCC writes, `rv build -g` makes what is loaded without `-g`,
 makes of their objects by `rv as -g`; also where one stands in an archive, and --defsym uses names of the program.
 
 Where GCC writes lines as `.loc`, objdump reads in the executable of `rv ld -g` the rows that GNU as and ld make of the
-same sources, and `rv build -g` loads what these sources without their lines give without `-g`.
+same sources, and `rv build -g` loads what these sources without their lines give without `-g`. There `rv dis --lines`
+prints what `objdump -d -l` prints, but for the names of functions and for discriminators, and for the folder where a line
+table of DWARF 4 was compiled, which it does not say.
 
 Without GCC for RISC-V nothing is tested. Standard library alone; the last line is 'N passed, M failed'.
 """
@@ -215,6 +217,17 @@ def lines_of_functions(folder, exe):
     return {name: call(folder, f"{GNU}addr2line -e {exe} {place}") for place, name in symbols}
 
 
+def without_discriminators(listing):
+    """What `objdump -d -l` prints, without the names of functions and discriminators: each line of source until another."""
+    kept, last = [], None
+    for line in re.sub(r"(?m) \(discriminator \d+\)$|^\S+\(\):\n", "", listing).splitlines():
+        is_source = re.match(r"[\w./-]+:\d+$", line)
+        if not (is_source and line == last):
+            kept.append(line)
+        last = line if is_source else None if line.endswith(">:") else last
+    return kept
+
+
 def without_lines(text):
     """A source without the directives that say lines."""
     return re.sub(r"(?m)^\t\.(loc |file \d).*$", "", text)
@@ -248,6 +261,11 @@ def mislocated(folder, words):
         wrong.append("image")
     if lines_of_functions(folder, "built") != lines_of_functions(folder, "relaxed"):
         wrong.append("functions")
+    own, shown = call(folder, f"{RV} dis --lines built"), call(folder, f"{GNU}objdump -d -l built")
+    if "-gdwarf-4" in words:
+        own, shown = (text.replace(f"{folder}/", "") for text in (own, shown))
+    if "first.c:2" not in own or own.splitlines() != without_discriminators(shown):
+        wrong.append("listing")
     return wrong
 
 

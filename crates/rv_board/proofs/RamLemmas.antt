@@ -2,13 +2,13 @@
 
 use Rattle.std.proofs.Common.{◌≡◌, ℕ, ◌+◌, ◌-◌, ◌≤◌, ◌<◌, Bool, true, false, not, ◌&&◌, nat_le, List, [], ◌∷◌, ◌++◌, length, map, append_assoc, refl, sym, ap, ◌∙◌, arith}
 use Rattle.std.specs.List.{list_all, fold}
-use Rattle.std.proofs.lemmas.Bool.{and_parts}
 use Rattle.std.proofs.lemmas.List.{map-append}
 use Rattle.std.proofs.lemmas.Bool.Decides.{nat_tests}
 use Rattle.rv_isa_laws.specs.Bytes.{zeros}
 use Rattle.rv_isa_laws.specs.Platform.{stack_start, stack_end, memory_limit}
 use Rattle.rv_isa_laws.proofs.BytesLemmas.{zeros_long}
 use Rattle.rv_image_laws.specs.Segment.{Segment, do_meet, meets_segment, meets_stack, are_apart, memory_size}
+use Rattle.rv_board_laws.proofs.PlatformLemmas.{begins_at, lie_ends}
 use Rattle.rv_board_laws.specs.Virt.{readable, registers, zeros_between, ram_start, ram_end, segment_end, lie_in_ram, ram_from}
 
 -- a segment that lies behind where it may begin ends behind the end of RAM, as those before it
@@ -31,13 +31,6 @@ lie_past from (s ∷ ss) far = lie_not from s ss (λ at. lie_past (segment_end s
 -- nor does one that ends there
 pub lie_beyond : (from : ℕ) (s : Segment) (ss : List Segment) → ram_end < segment_end s → lie_in_ram from (s ∷ ss) ≡ false
 lie_beyond from s ss far = lie_not from s ss (λ at. lie_past (segment_end s) ss far)
-
--- the first begins here or behind, and the rest ascends from its end
-begins_at : (from : ℕ) (s : Segment) (ss : List Segment) → lie_in_ram from (s ∷ ss) ≡ true → (from ≤ s.address) × (lie_in_ram (segment_end s) ss ≡ true)
-begins_at from s ss lie =
-    let parts = and_parts (nat_le from s.address) (lie_in_ram (segment_end s) ss) lie in
-    let first = parts.0 in
-    (grind (arith, nat_tests, first), parts.1)
 
 none_left : (from : ℕ) → lie_in_ram from [] ≡ true → from ≤ ram_end
 none_left from lie = grind (arith, nat_tests, lie)
@@ -113,15 +106,6 @@ ram_size from (s ∷ ss) lie =
     let sum : memory_size (ram_from from (s ∷ ss)) ≡ length (zeros (s.address - from)) + (length s.bytes + memory_size (ram_from (segment_end s) ss)) =
     size_next (zeros_between from s.address) (s ∷ ram_from (segment_end s) ss) ∙ ap (λ k. length (zeros (s.address - from)) + k) (size_next s (ram_from (segment_end s) ss)) in
     omega (arith, long, at, rest, sum)
-
--- what lies in RAM begins by its end
-pub lie_ends : (from : ℕ) (ss : List Segment) → lie_in_ram from ss ≡ true → from ≤ ram_end
-lie_ends from [] lie = none_left from lie
-lie_ends from (s ∷ ss) lie =
-    let parts = begins_at from s ss lie in
-    let at = parts.0 in
-    let rest = lie_ends (segment_end s) ss parts.1 in
-    omega (arith, at, rest)
 
 -- the registers meet neither RAM nor the stack, nor one another
 pub board_apart : (ss : List Segment) → lie_in_ram ram_start ss ≡ true → are_apart (registers ++ ram_from ram_start ss) ≡ true

@@ -12,7 +12,7 @@ use Rattle.rv_isa_laws.specs.Run.{Fetched, NoRight, NoInstruction, Got, fetch, d
 use Rattle.rv_board_laws.specs.Device.{Device, Plain, loaded, stored, apply_on, done_on, step_on, run_on}
 
 -- where nothing stands anywhere, it is the run without devices
-plain_apply : (e : Effect) (m : Mem) → apply_on (λ a. Plain) e m ≡ apply e m
+pub plain_apply : (e : Effect) (m : Mem) → apply_on (λ a. Plain) e m ≡ apply e m
 plain_apply (Goes next) m = refl
 plain_apply (Loads a n next) m = refl
 plain_apply (Stores a n v next) m = refl

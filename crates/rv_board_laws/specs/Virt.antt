@@ -10,6 +10,7 @@ use Rattle.rv_image_laws.specs.Image.{Image}
 use Rattle.rv_image_laws.specs.Memory.{mem_of}
 use Rattle.rv_image_laws.specs.Segment.{Segment}
 use Rattle.rv_board_laws.specs.Device.{Device, Plain, Serial, Constant, Power, run_on}
+use Rattle.rv_board_laws.specs.Platform.{Platform}
 
 -- a 16550 at 10000000h, of which these registers are no bytes of memory: data, interrupt
 -- identification (1: none is pending) and modem status (QEMU's, of a line that is connected); and
@@ -77,3 +78,11 @@ abbrev pub virt_run : {Spells StandsFor : ℕ → Inst → Type 0} → Reader Sp
     List ℕ → ℕ → Outcome
 virt_run reader image input n =
     run_on virt reader n (board_start input) (mem_of (with_ram image))
+
+-- the board as a platform: the registers and RAM of zeros, with sp at 0
+abbrev pub virt_platform : Platform
+virt_platform = record {
+  device = virt;
+  beside = mem_of (with_ram (record { entry = ram_start; segments = [] }));
+  top = 0;
+}

@@ -9,12 +9,12 @@ use Rattle.rv_elf_laws.specs.Fields.{number_in, e_flags}
 use Rattle.rv_image_laws.specs.ImageOf.{ImageOf}
 use Rattle.rv_image_laws.specs.FirstFault.{first_fault}
 use Rattle.rv_image.proofs.LoadedAgainLemmas.{reads, reload_image, reload_fault}
-use Rattle.rv_chain_laws.specs.Headline.{RunsAgree, TheHeadline, rvc_flag}
+use Rattle.rv_chain_laws.specs.Headline.{RunsAgree, RunsAgreeOn, TheHeadline, rvc_flag}
 use Rattle.rv_chain_laws.specs.Building.{IsProgramFrom}
 
-pub headlined : (texts : List (List ℕ)) (start : ℕ) (relax gc : Bool) (l : Linked) (exe : List ℕ) → IsLaidOut l → IsMap l.map → (program : IsProgramFrom texts start relax gc l) → RunsAgree program.sources l.map (linked_image l) → exe ≡ exe_of l
+pub headlined : (texts : List (List ℕ)) (start : ℕ) (relax gc : Bool) (l : Linked) (exe : List ℕ) → IsLaidOut l → IsMap l.map → (program : IsProgramFrom texts start relax gc l) → RunsAgree program.sources l.map (linked_image l) → RunsAgreeOn program.sources l.map (linked_image l) → exe ≡ exe_of l
     → TheHeadline texts start relax gc exe (map_text l.map)
-headlined texts start relax gc l exe laid is_map program agree written = record {
+headlined texts start relax gc l exe laid is_map program agree on_platforms written = record {
   sources = program.sources;
   read = program.read;
   map = l.map;
@@ -32,4 +32,5 @@ headlined texts start relax gc l exe laid is_map program agree written = record 
   accepted = ap first_fault written ∙ reload_fault l laid;
   flagged = ap (number_in e_flags 0) written ∙ ap (λ h. h.e_flags) (reads l laid).fields ∙ ap rvc_flag program.flag;
   agree = agree;
+  on_platforms = on_platforms;
 }

@@ -25,7 +25,7 @@ use rv_link::{GroundOptions, LinkOptions, within_limits};
 use rv_object_types::Object;
 use rv_raw_theorems::raw_listings_reassemble;
 use rv_reach_theorems::{short_branches_reach, short_calls_reach};
-use rv_runs_theorems::{linked_runs_agree, listing_is_the_sources};
+use rv_runs_theorems::{linked_runs_agree, linked_runs_agree_on, listing_is_the_sources};
 use rv_sources_link_theorems::{linked_objects_are_flagged, objects_of_sources_link};
 use rv_value_theorems::values_are_plain;
 use std::alloc::Global;
@@ -34,8 +34,9 @@ use std::alloc::Global;
 ///
 /// For every input and every instruction limit, running the executable's bytes gives exactly the
 /// console and the end that the statements of the sources give, each executed in one step at the
-/// addresses of the map; only a jump to the inside of a statement ends the promise. Where calls are
-/// relaxed, those are short that can be, and no others.
+/// addresses of the map; only a jump to the inside of a statement ends the promise. This holds on every
+/// platform where nothing but the program is executed: with any devices, any other memory and any `sp`,
+/// the same in both runs. Where calls are relaxed, those are short that can be, and no others.
 ///
 /// The listing of the executable with the map shows, for each statement of code, the base
 /// instructions that stand for it there, and nothing else.
@@ -87,6 +88,7 @@ pub fn build_on(alloc: Global, sources: &[&[u8]], options: GroundOptions) -> Res
 {
     let linked = linked(alloc, sources, options, true)?;
     linked_runs_agree();
+    linked_runs_agree_on();
     listing_is_the_sources();
     raw_listings_reassemble();
     values_are_plain();
@@ -127,6 +129,7 @@ pub fn build_exe_on(
 {
     let linked = linked(alloc, sources, options, false)?;
     linked_runs_agree();
+    linked_runs_agree_on();
     listing_is_the_sources();
     raw_listings_reassemble();
     let exe = write_exec(alloc, &linked)?;

@@ -17,6 +17,7 @@ use Rattle.rv_parcel.specs.Parcel.{StandsFor}
 use Rattle.rv_isa_laws.specs.Reader.{Reader}
 use Rattle.rv_isa_laws.specs.Run.{machine_run}
 use Rattle.rv_image_laws.specs.Memory.{mem_of}
+use Rattle.rv_board_laws.specs.Platform.{Platform, IsPlatform, machine_run_on}
 use Rattle.rv_source_laws.specs.Compressed.{is_compressed}
 use Rattle.rv_source_laws.specs.Program.{Mapped, program}
 use Rattle.rv_source_laws.specs.SourceRun.{source_run}
@@ -25,6 +26,7 @@ use Rattle.rv_collect_laws.specs.Graph.{AreDrops}
 use Rattle.rv_source_laws.specs.Collected.{graph_of}
 use Rattle.rv_source_laws.specs.Resolves.{Resolves}
 use Rattle.rv_chain_laws.specs.Agrees.{Agrees}
+use Rattle.rv_chain_laws.specs.PlatformRun.{source_run_on}
 use Rattle.rv_source_laws.specs.Sized.{Sized}
 use Rattle.rv_source_laws.specs.Shortened.{Shortened}
 use Rattle.rv_chain_laws.specs.Contents.{IsCodeWritten}
@@ -47,6 +49,13 @@ RunsAgree sources map image =
     (reader : Reader Spells StandsFor) (input : List ℕ) → AreBytes input → (n : ℕ)
     → Agrees (source_run sources map input n)
     (machine_run reader (mem_of image) image.entry input n)
+
+-- and for every platform: with its devices, its memory beside the program's and its sp in both runs
+abbrev pub RunsAgreeOn : List (List Statement) → Map → Image → Type 0
+RunsAgreeOn sources map image =
+    (q : Platform) → IsPlatform q
+    → (reader : Reader Spells StandsFor) (input : List ℕ) → AreBytes input → (n : ℕ)
+    → Agrees (source_run_on q sources map input n) (machine_run_on q reader image input n)
 
 -- EF_RISCV_RVC, the flag of compressed code (RISC-V ELF psABI, "File Header")
 abbrev pub rvc_flag : Bool → ℕ
@@ -81,3 +90,4 @@ pub record TheHeadline (texts : List (List ℕ)) (text_start : ℕ) (relax gc : 
   -- its one flag is set exactly where one of the sources has compressed code
   pub flagged : number_in e_flags 0 executable ≡ rvc_flag (is_compressed sources)
   pub agree : RunsAgree sources map image
+  pub on_platforms : RunsAgreeOn sources map image

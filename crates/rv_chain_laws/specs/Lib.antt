@@ -1,3 +1,5 @@
+-- The source run on a platform.
+pub mod PlatformRun
 -- What memory owes to a map and its sources.
 pub mod Realizes
 -- When a source run and a run of the machine agree.

@@ -2,11 +2,12 @@
 //! that a build or a link promises beside it.
 //!
 //! It takes what sources mean (`rv_source_laws`), what a linked program and an image are (`rv_image_laws`) and what the
-//! machine does (`rv_isa_laws`). It gives the definition that `build` promises (`specs/Headline`), what a linked
-//! program owes to it (`Contents`) and what memory owes to it (`Realizes`); what the instructions of a statement come
-//! to (`Walks`); the listing of sources, in which no byte occurs (`SourceListing`); and what is said of files of
-//! objects (`Objects`), of links and builds (`Linking`, `Building`), of their listings (`Listed`) and of runs
-//! (`Running`). `rv_runs_theorems` has the law.
+//! machine does (`rv_isa_laws`), on whatever platform (`rv_board_laws`). It gives the definition that `build` promises
+//! (`specs/Headline`), what a linked program owes to it (`Contents`) and what memory owes to it (`Realizes`); the
+//! source run on a platform (`PlatformRun`); what the instructions of a statement come to (`Walks`); the listing of
+//! sources, in which no byte occurs (`SourceListing`); and what is said of files of objects (`Objects`), of links and
+//! builds (`Linking`, `Building`), of their listings (`Listed`) and of runs (`Running`). `rv_runs_theorems` has the
+//! law.
 //!
 //! Nothing here runs.
 //!

@@ -40,6 +40,7 @@ pub(crate) const CODE: Help = Help {
   rv dis prog.o
   rv dis --map prog.map prog
   rv dis --base prog.o
+  rv dis --lines prog
 
 The columns are those of GNU's objdump -d -r.",
 };
@@ -48,11 +49,14 @@ pub(crate) fn code<'a>(operands: &mut Operands<'_, 'a>) -> Job<'a> {
     let map = operands.optional(map_with_names());
     let base = Flag::long("base", "Shows base instructions and no aliases");
     let aliases = !operands.flag(base);
+    let lines = "Shows the lines of source before their code, of an executable with line tables";
+    let lines = operands.flag(Flag::long("lines", lines));
     Job::Code(AskedCode {
         file: operands.required(file()),
         map,
         map_first: operands.is_before(map_with_names(), file()),
         aliases,
+        lines,
     })
 }
 

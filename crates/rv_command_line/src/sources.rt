@@ -60,8 +60,10 @@ The columns are those of GNU's as -al; the addresses are those of the executable
 
 pub(crate) fn list<'a>(operands: &mut Operands<'_, 'a>) -> Job<'a> {
     let help = "Shows all bytes of a line, and not the first rows alone";
+    let debug = "Takes what GCC writes with -g: .loc, .file N, .uleb128, .sleb128";
     Job::List {
         all: operands.flag(Flag::long("all", help)),
+        debug: operands.flag(Flag::letter("debug", 'g', debug)),
         options: link_options(operands),
         sources: operands.all(sources()),
     }

@@ -22,6 +22,24 @@ pub struct FileName<'e> {
     pub name: &'e [u8],
 }
 
+impl<'e> FileName<'e> {
+    /// What leads to it, from the outermost directory to its name; a directory that its path does not need is empty.
+    pub fn path(&self) -> [&'e [u8]; 3] {
+        let FileName {
+            compiled_in,
+            directory,
+            name,
+        } = *self;
+        if name.starts_with(b"/") {
+            [b"", b"", name]
+        } else if directory.starts_with(b"/") {
+            [b"", directory, name]
+        } else {
+            [compiled_in, directory, name]
+        }
+    }
+}
+
 /// The tables of strings to which names may lead.
 #[derive(Clone, Copy, Drop)]
 pub(crate) struct Strings<'e> {

@@ -12,3 +12,5 @@ pub mod OpenCodesLemmas
 pub mod LeastSizesLemmas
 -- Collection drops nothing of the worked program.
 pub mod Exit7CollectedLemmas
+-- The worked program for the board virt: its run on it.
+pub mod EchoLemmas

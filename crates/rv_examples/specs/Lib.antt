@@ -16,5 +16,7 @@ pub mod KnownCode
 pub mod OpenCode
 -- Worked sources whose sizes of branches are the least that reach: `x:`, and a branch to `x` and so many bytes more.
 pub mod BranchSizes
+-- A worked program for the board virt.
+pub mod Echo
 -- Worked parcels: statements that name one, their bytes, and a program with one where compressed code is off.
 pub mod Parcels

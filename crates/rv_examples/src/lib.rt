@@ -2,7 +2,7 @@
 //!
 //! It takes the definitions of what sources mean (`rv_source_laws`), of why they are refused (`rv_assemble_laws`), of
 //! the headline (`rv_chain_laws`) and of executables (`rv_image_laws`), and shows of whole sources (`specs/Exit7`,
-//! `Data`, `CodeAlignment`, `Parcels`, `Refused`) and of code (`KnownCode`, `OpenCode`, `BranchSizes`) what they come
+//! `Data`, `Echo`, `CodeAlignment`, `Parcels`, `Refused`) and of code (`KnownCode`, `OpenCode`, `BranchSizes`) what they come
 //! to: runs, maps, bytes, faults. Each contract is closed, so that the check computes it; a definition that said
 //! something else would fail here. Nothing here runs, and no other crate stands on this one.
 //!
@@ -30,8 +30,9 @@ pub use refused::{
     scratch_registers_are_used, targets_are_addresses, upper_parts_end, worked_are_sound,
 };
 pub use worked::{
-    code_is_aligned, differences_fit, differences_spell, exit7_executes, exit7_fits,
-    exit7_is_limited, exit7_is_written, exit7_links, exit7_lists, exit7_loads, exit7_resolves,
-    exit7_runs, exit7_shows, exit255_runs, figures_fit, figures_resolve, figures_spell, hello_fits,
-    hello_holds, hello_resolves, hello_runs, parcel7_runs, two_files_run,
+    code_is_aligned, differences_fit, differences_spell, echo_runs_on_the_board, exit7_executes,
+    exit7_fits, exit7_is_limited, exit7_is_written, exit7_links, exit7_lists, exit7_loads,
+    exit7_resolves, exit7_runs, exit7_shows, exit255_runs, figures_fit, figures_resolve,
+    figures_spell, hello_fits, hello_holds, hello_resolves, hello_runs, parcel7_runs,
+    two_files_run,
 };

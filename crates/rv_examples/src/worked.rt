@@ -1,7 +1,7 @@
 //! Worked programs, as contracts that the check computes.
 
 ghost use Rattle.std.specs.Prelude.{◌≡◌, Bool, true, false, [], ◌∷◌, Some, None, length, map, codes};
-ghost use Rattle.rv_isa_laws.specs.Hart.{Limit};
+ghost use Rattle.rv_isa_laws.specs.Hart.{Limit, LoadOutside};
 ghost use Rattle.rv_examples.specs.Exit7.{exit7, exit7_map, exit7_text, exit7_listing, exit255, exit255_map, first_file, second_file, two_files_map, exits};
 ghost use Rattle.rv_examples.specs.Exit7Executable.{exit7_file, exit7_image, exit7_linked};
 ghost use Rattle.rv_map_laws.specs.Text.{map_text};
@@ -16,6 +16,9 @@ ghost use Rattle.rv_isa_laws.specs.Run.{machine_run};
 ghost use Rattle.rv_chain_laws.specs.Contents.{IsLinked};
 ghost use Rattle.rv_chain_laws.specs.SourceListing.{IsSourceListing};
 ghost use Rattle.rv_examples.specs.Data.{hello, hello_map, says_hello, hello_text, figures, figures_map, figures_data, differences, differences_map, differences_data};
+ghost use Rattle.rv_examples.specs.Echo.{echo, echo_map, sends};
+ghost use Rattle.rv_board_laws.specs.Virt.{virt_platform};
+ghost use Rattle.rv_chain_laws.specs.PlatformRun.{source_run_on};
 ghost use Rattle.rv_examples.specs.Parcels.{parcel7, parcel7_map};
 ghost use Rattle.rv_examples.specs.CodeAlignment.{two_sections, with_gap, without_gap};
 ghost use Rattle.rv_examples.specs.Regions.{text_sections, text_bytes, rodata_bytes, example_data};
@@ -180,4 +183,15 @@ pub fn differences_fit()
 /// The bytes of its data: a difference of two places is a number, and `|` and `%` bind as GNU as has it.
 pub fn differences_spell()
     ensures { example_data differences differences_map ≡ differences_data }
+{}
+
+/// A program for the board virt: its map fits it, and it sends the first byte of its input back, or 0 where there is none.
+/// Without the board its first load is refused.
+pub fn echo_runs_on_the_board()
+    ensures fits { Fits (echo ∷ []) echo_map 0x8000_0000 }
+    ensures resolves { Resolves (echo ∷ []) echo_map }
+    ensures runs { source_run_on virt_platform (echo ∷ []) echo_map (codes "A") 7 ≡ sends (codes "A") }
+    ensures ended { source_run_on virt_platform (echo ∷ []) echo_map [] 7 ≡ sends (0 ∷ []) }
+    ensures alone { source_run (echo ∷ []) echo_map (codes "A") 7
+        ≡ record { console = []; «end» = LoadOutside 0x1000_0000 } }
 {}

@@ -73,6 +73,7 @@ fn print_code_of<S: System>(
     let alloc: Global = system.alloc();
     let style = Style {
         aliases: asked.aliases,
+        lines: asked.lines,
     };
     match CodeFile::of(alloc, file, map, style) {
         Ok(shown) => {

@@ -4,6 +4,7 @@ use crate::alias_text::{put_alias, put_parcel_alias};
 use crate::columns::Column::{Decimal, Hexadecimal, Left, Name, Padded, Text};
 use crate::columns::{Column, put, put_columns};
 use crate::instruction_text::{is_plain_fence, put_instruction};
+use crate::line_numbers::{LineNumbers, NumberedCode, put_line_number};
 use crate::marks::Mark;
 use crate::pairs::Pairs;
 use crate::parcel_text::put_parcel;
@@ -30,12 +31,14 @@ pub(crate) struct Code<'a> {
     pub(crate) marks: &'a [Mark],
     /// Its relocations, by their places.
     pub(crate) relocations: &'a [Relocation<'a>],
+    /// The lines of source that are shown.
+    pub(crate) lines: &'a LineNumbers<'a>,
     pub(crate) aliases: bool,
 }
 
 /// How far the lines of a section are.
 #[derive(Drop)]
-pub(crate) struct Cursor {
+pub(crate) struct Cursor<'a> {
     has_heading: bool,
     /// The offset after the last line.
     offset: usize,
@@ -45,18 +48,21 @@ pub(crate) struct Cursor {
     marks: usize,
     /// How many relocations stand before.
     relocations: usize,
+    /// The line of source of what was shown last, since the last name.
+    line: Option<NumberedCode<'a>>,
     pairs: Pairs,
 }
 
-impl Cursor {
+impl Cursor<'_> {
     /// At the beginning of a section, where registers hold this.
-    pub(crate) fn new(pairs: Pairs) -> Cursor {
+    pub(crate) fn new(pairs: Pairs) -> Self {
         Cursor {
             has_heading: false,
             offset: 0,
             stop: 0,
             marks: 0,
             relocations: 0,
+            line: None,
             pairs,
         }
     }
@@ -68,6 +74,7 @@ impl Cursor {
         self.stop = 0;
         self.marks = 0;
         self.relocations = 0;
+        self.line = None;
     }
 }
 
@@ -86,10 +93,10 @@ impl Code<'_> {
 }
 
 /// Adds the next line of a section; false where none is left.
-pub(crate) fn put_next(
+pub(crate) fn put_next<'a>(
     text: &mut Vec<u8>,
-    code: &Code<'_>,
-    cursor: &mut Cursor,
+    code: &Code<'a>,
+    cursor: &mut Cursor<'a>,
 ) -> Result<bool, AllocError> {
     if !cursor.has_heading {
         cursor.has_heading = true;
@@ -102,6 +109,11 @@ pub(crate) fn put_next(
         return Ok(true);
     }
     if cursor.offset < cursor.stop {
+        if let Some(line) = next_line(code, cursor) {
+            cursor.line = Some(line);
+            put_line_number(text, &line)?;
+            return Ok(true);
+        }
         put_code(text, code, cursor)?;
         return Ok(true);
     }
@@ -111,6 +123,7 @@ pub(crate) fn put_next(
         return Ok(false);
     }
     cursor.stop = next_stop(code, cursor.offset);
+    cursor.line = None;
     put_label(text, &code.scope, code.address(cursor.offset))?;
     Ok(true)
 }
@@ -128,12 +141,21 @@ fn put_heading(text: &mut Vec<u8>, name: &[u8]) -> Result<(), AllocError> {
 }
 
 /// The next relocation, where its place is in the lines that are there.
-fn passed_relocation<'a>(code: &Code<'a>, cursor: &Cursor) -> Option<&'a Relocation<'a>> {
+fn passed_relocation<'a>(code: &Code<'a>, cursor: &Cursor<'_>) -> Option<&'a Relocation<'a>> {
     let next = code.relocations.get(cursor.relocations)?;
     if cursor.offset != 0 && next.place < code.address(cursor.offset) {
         Some(next)
     } else {
         None
+    }
+}
+
+/// The line of source of what is next, where it is another than that of what was shown last.
+fn next_line<'a>(code: &Code<'a>, cursor: &Cursor<'a>) -> Option<NumberedCode<'a>> {
+    let next = code.lines.at(code.address(cursor.offset))?;
+    match &cursor.line {
+        Some(last) if last.is_of_line(&next) => None,
+        _ => Some(next),
     }
 }
 
@@ -148,7 +170,11 @@ fn next_stop(code: &Code<'_>, offset: usize) -> usize {
 }
 
 /// Adds the line of what is next.
-fn put_code(text: &mut Vec<u8>, code: &Code<'_>, cursor: &mut Cursor) -> Result<(), AllocError> {
+fn put_code(
+    text: &mut Vec<u8>,
+    code: &Code<'_>,
+    cursor: &mut Cursor<'_>,
+) -> Result<(), AllocError> {
     let offset = cursor.offset;
     let bytes = code.bytes.get(offset..).unwrap_or(b"");
     let inside = bytes
@@ -203,7 +229,7 @@ fn count_zeros(bytes: &[u8]) -> usize {
 fn put_line(
     text: &mut Vec<u8>,
     code: &Code<'_>,
-    cursor: &mut Cursor,
+    cursor: &mut Cursor<'_>,
     offset: usize,
     bytes: &[u8],
 ) -> Result<usize, AllocError> {
@@ -250,7 +276,7 @@ fn width_below(end: u64) -> usize {
 }
 
 /// How many bytes of data are on the line of an address; 0 where code stands there.
-fn data_at(code: &Code<'_>, cursor: &mut Cursor, address: u64, left: usize) -> usize {
+fn data_at(code: &Code<'_>, cursor: &mut Cursor<'_>, address: u64, left: usize) -> usize {
     let rest = code.marks.get(cursor.marks..).unwrap_or(&[]);
     let passed = rest.partition_point(|mark| mark.address <= address);
     cursor.marks = cursor.marks.saturating_add(passed);
@@ -276,7 +302,7 @@ fn data_at(code: &Code<'_>, cursor: &mut Cursor, address: u64, left: usize) -> u
 fn put_parcel_line(
     text: &mut Vec<u8>,
     code: &Code<'_>,
-    cursor: &mut Cursor,
+    cursor: &mut Cursor<'_>,
     address: u64,
     inst: &Inst,
     bytes: &[u8],
@@ -303,7 +329,7 @@ fn parcel_of(bytes: &[u8]) -> Option<Compressed> {
 fn put_word_line(
     text: &mut Vec<u8>,
     code: &Code<'_>,
-    cursor: &mut Cursor,
+    cursor: &mut Cursor<'_>,
     address: u64,
     inst: &Inst,
 ) -> Result<(), AllocError> {

@@ -3,6 +3,7 @@
 use crate::code_lines::{Code, Cursor, put_next};
 use crate::code_names::{CodeNames, file_names, names_of_map};
 use crate::columns::put;
+use crate::line_numbers::LineNumbers;
 use crate::pairs::Pairs;
 use crate::parts::{bytes_of, section_at};
 use crate::relocations::relocations_in;
@@ -20,6 +21,8 @@ pub struct Style {
     /// By their shortest names (`li`, `ret`, `mv`, `beqz`); else by those of the instruction set, parcels by their `c.`
     /// mnemonics.
     pub aliases: bool,
+    /// With the lines of source, where an executable has line tables.
+    pub lines: bool,
 }
 
 /// A file whose code is shown, and what its lines are made by.
@@ -27,8 +30,9 @@ pub struct Style {
 pub struct CodeFile<'a> {
     view: ElfView<'a>,
     names: CodeNames<'a>,
+    lines: LineNumbers<'a>,
     has_sections: bool,
-    style: Style,
+    aliases: bool,
 }
 
 impl<'a> CodeFile<'a> {
@@ -51,11 +55,17 @@ impl<'a> CodeFile<'a> {
             map_names(alloc, map)?
         };
         check_bytes(&view, has_sections)?;
+        let lines = if style.lines && view.header().e_type != ET_REL {
+            LineNumbers::of(alloc, file)?
+        } else {
+            LineNumbers::nothing(alloc)
+        };
         Ok(CodeFile {
             view,
             names,
+            lines,
             has_sections,
-            style,
+            aliases: style.aliases,
         })
     }
 
@@ -117,7 +127,8 @@ impl<'a> CodeFile<'a> {
             bytes,
             marks: self.names.marks.of_section(section),
             relocations: relocations_in(&self.names.relocations, section),
-            aliases: self.style.aliases,
+            lines: &self.lines,
+            aliases: self.aliases,
         }
     }
 
@@ -139,7 +150,8 @@ impl<'a> CodeFile<'a> {
             bytes,
             marks: self.names.marks.of_section(0),
             relocations: &[],
-            aliases: self.style.aliases,
+            lines: &self.lines,
+            aliases: self.aliases,
         }
     }
 }
@@ -155,7 +167,7 @@ pub struct CodeLines<'a, 'n> {
     code: Option<Code<'a>>,
     /// The index after it.
     index: u16,
-    cursor: Cursor,
+    cursor: Cursor<'a>,
 }
 
 impl CodeLines<'_, '_> {

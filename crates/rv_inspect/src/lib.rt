@@ -14,7 +14,7 @@
 //! let mut text = Vec::new(alloc);
 //! let mut names = NameLines::of_map(alloc, &map)?;
 //! names.next(&mut text)?;              // true: "0000000000010000 T _start\n"
-//! let code = CodeFile::of(alloc, file, None, Style { aliases: true })?;
+//! let code = CodeFile::of(alloc, file, None, Style { aliases: true, lines: false })?;
 //! let mut lines = code.lines("a.o");
 //! lines.next(&mut text)?;              // true: "\na.o:     file format elf64-littleriscv\n\n"
 //! ```
@@ -33,6 +33,7 @@ mod file_header;
 mod instruction_text;
 mod labels;
 mod letter;
+mod line_numbers;
 mod marks;
 mod names;
 mod pairs;

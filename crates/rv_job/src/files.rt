@@ -10,6 +10,8 @@ pub struct AskedCode<'a> {
     pub map_first: bool,
     /// Whether instructions are shown by their aliases.
     pub aliases: bool,
+    /// Whether the lines of source are shown.
+    pub lines: bool,
 }
 
 /// An image that the words ask for.

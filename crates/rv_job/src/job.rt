@@ -51,6 +51,8 @@ pub enum Job<'a> {
     /// Prints the lines of sources with what they become.
     List {
         all: bool,
+        /// Whether sources may have what only debug sections have, as GCC's with `-g`.
+        debug: bool,
         options: GroundOptions,
         sources: Vec<&'a str>,
     },

@@ -96,6 +96,7 @@ near-still ss ts nears alike are = record {
   low_writes = quick-still ss ts _ nears.low_written _ alike are.low_writes;
   high_reads = quick-still ss ts _ nears.high _ alike are.high_reads;
   high_writes = quick-still ss ts _ nears.high_written _ alike are.high_writes;
+  below_reads = quick-still ss ts _ nears.below _ alike are.below_reads;
 }
 
 pub known-still : (ss ts : List Segment) (pages : List Page) (nears : Nears) → AreAlike ss ts → AreKnown ss pages nears → AreKnown ts pages nears

@@ -6,7 +6,7 @@ use Rattle.std.proofs.lemmas.Bool.Decides.{nat_tests}
 use Rattle.std.proofs.lemmas.List.{map-set, length-replicate, get_or-set_same, get_or-set_other, get_or-append-add}
 use Rattle.std.proofs.lemmas.Option.{slice_get-get_or}
 use Rattle.std.proofs.Math.Path.{fun_ext}
-use Rattle.rv_isa_laws.specs.Memory.{Mem, Right, Read, Write, Execute, may, with_byte, with_bytes}
+use Rattle.rv_isa_laws.specs.Memory.{Mem, Right, Read, Write, Execute, may, number_at, with_byte, with_bytes}
 use Rattle.rv_isa_laws.specs.Platform.{stack_start}
 use Rattle.rv_image_laws.specs.Segment.{Segment}
 use Rattle.rv_image.specs.SegmentView.{segment_of}
@@ -14,7 +14,7 @@ use Rattle.rv_image.specs.declared.segment.Segment.{Segment as DeclaredSegment}
 use Rattle.rv_image_laws.specs.Memory.{lies_in, segment_at, byte_in, right_in, gives_right}
 use Rattle.rv_memory.specs.Flat.{memory_of, AreDisjoint, no_segment}
 use Rattle.rv_memory.specs.Pages.{AreOrdered, AreBehind, AreListed}
-use Rattle.rv_memory.specs.Unmade.{lies_unmade, in_unmade, with_unmade, IsUnmade, IsGap, deep, deeper}
+use Rattle.rv_memory.specs.Unmade.{lies_unmade, in_unmade, with_unmade, IsFree, IsUnmade, IsGap, deep, deeper}
 use Rattle.rv_memory.specs.declared.page.Page.{Page}
 use Rattle.rv_memory.proofs.NewLemmas.{or-true}
 use Rattle.rv_memory.proofs.FlatLemmas.{element-or, holds-range, range-holds, held-segment, disjoint-rest, same-memory}
@@ -78,6 +78,23 @@ run-unmade m base a (suc (suc n)) r gives at high small =
     let here : (in_unmade base (a % 2 ^ 64) r || m.has (a % 2 ^ 64) r) ≡ true = ap (λ (b : Bool). b || m.has (a % 2 ^ 64) r) (gives _ there) in
     let next : lies_unmade base (a + 1) ≡ true = range-unmade base (a + 1) (omega (arith, range.0)) (omega (arith, high)) in
     and_from _ _ here (run-unmade m base (a + 1) (suc n) r gives next (omega (arith, high)) small)
+
+-- each of its bytes is 0, and so is a number of them
+pub byte-unmade : (ss : List Segment) (base a n : ℕ) → IsFree ss base → stack_start ≤ a → a + n ≤ base → base ≤ 2 ^ 64 →
+    (k : ℕ) → k < n → (memory_of ss).byte ((a + k) % 2 ^ 64) ≡ 0
+byte-unmade ss base a n free low high small k within =
+    let x : ℕ = (a + k) % 2 ^ 64 in
+    let wraps : x ≡ a + k = omega (arith, high, small, within) in
+    ap (λ (o : Option Segment). byte_in o x) (free x (omega (arith, wraps, low)) (omega (arith, wraps, high, within)))
+
+pub zeros-number : (m : Mem) (a n : ℕ) → ((k : ℕ) → k < n → m.byte ((a + k) % 2 ^ 64) ≡ 0) → number_at m a n ≡ 0
+zeros-number m a zero zeros = refl
+zeros-number m a (suc n) zeros =
+    let place : a % 2 ^ 64 ≡ (a + 0) % 2 ^ 64 = omega arith in
+    let here : m.byte (a % 2 ^ 64) ≡ 0 = ap m.byte place ∙ zeros 0 (omega arith) in
+    let next : (k : ℕ) → (a + 1 + k) % 2 ^ 64 ≡ (a + suc k) % 2 ^ 64 = λ k. omega arith in
+    let rest = zeros-number m (a + 1) n (λ k low. ap m.byte (next k) ∙ zeros (suc k) (omega (arith, low))) in
+    omega (arith, here, rest)
 
 -- where no segment lies there is no right but these
 pub free-right : (ss : List Segment) (base x : ℕ) (r : Right) → lies_unmade base x ≡ false → segment_at ss x ≡ None →

@@ -28,7 +28,8 @@ abbrev pub IsEnd : List Segment → ℕ → ℕ → Type 0
 IsEnd segments start bytes =
     0 < bytes → (memory_of segments).has ((start + bytes) % 2 ^ 64) Execute ≡ false
 
--- what is near to code, and below and above to be read and to be written, is right, and so is where code ends
+-- what is near to code, on both sides to be read and to be written, and below these to be read, is right, and so is where
+-- code ends
 pub record AreNear (segments : List Segment) (nears : Nears) : Type 0 where
   pub code_executes : IsQuick segments 0 nears.code Execute
   pub code_ends : IsEnd segments nears.code.start nears.code_bytes
@@ -36,6 +37,7 @@ pub record AreNear (segments : List Segment) (nears : Nears) : Type 0 where
   pub low_writes : IsQuick segments nears.low_written.segment nears.low_written Write
   pub high_reads : IsQuick segments nears.high.segment nears.high Read
   pub high_writes : IsQuick segments nears.high_written.segment nears.high_written Write
+  pub below_reads : IsQuick segments nears.below.segment nears.below Read
 
 -- the segments but the first are in order, and are found by these pages and by what is near
 pub record AreKnown (segments : List Segment) (list : List Page) (nears : Nears) : Type 0 where

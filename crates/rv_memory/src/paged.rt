@@ -4,13 +4,14 @@
 //! bytes of it. A look-up is a binary search, after a look at what is made of the stack. The bytes of neighbouring pages
 //! lie one after the other in their segment, where the image had them, so none is copied.
 //!
-//! At the start the stack's segment has only the last of its bytes. Below are zeros that no segment has: a load reads them
-//! as they are, and the first store there has the segment begin at the stack's start. The room for that is asked for at
-//! the start, as a store cannot want memory.
+//! At the start the stack's segment has only the last of its bytes. Below are zeros that no segment has: a load there
+//! compares with its two ends and is 0, and the first store there has the segment begin at the stack's start. The room for
+//! that is asked for at the start, as a store cannot want memory.
 //!
 //! In front of the search stand stretches: of code, and of the two segments where most data and the stack are, whichever
 //! of them is the higher one. One compare tells which, and one whether an access of its width lies in it, wherever pages
-//! end. All else is out of line, so that the hot loop takes these into itself. The segment of the entry is put in front
+//! end. A load then looks at one more, where constants are. All else is out of line, so that the hot loop takes these into
+//! itself. The segment of the entry is put in front
 //! of all others, since a constant index costs least; the others are in the order of their addresses. So it is the same
 //! to a program where in memory it stands. Contracts do not see what a `Cell` holds, so the index of the latest segment
 //! found is tested like any other.
@@ -60,7 +61,7 @@ use crate::flat::{Flat, give, is_held};
 use crate::memory::{Memory, Right};
 use crate::page::{Page, index_behind, page_of, pages_of};
 use crate::pieces::{Pieces, have_right, load_number, number, store_number};
-use crate::stretch::{Nears, Stretch, nears_of, sides};
+use crate::stretch::{Nears, Sides, Stretch, nears_of, sides_of};
 use rv_image::{Image, STACK_BYTES, STACK_START};
 use std::alloc::{AllocError, Global};
 use std::mem;
@@ -106,6 +107,15 @@ fn room_above(alloc: Global, base: u64) -> Result<Vec<u8>, AllocError>
     Vec::with_capacity(alloc, STACK_BYTES)
 }
 
+/// The same segments, after the one at `first` was put in front of all.
+fn sides_behind(first: usize, sides: Sides) -> Sides {
+    Sides {
+        below: index_behind(first, sides.below),
+        low: index_behind(first, sides.low),
+        high: index_behind(first, sides.high),
+    }
+}
+
 impl Paged {
     ghost use Rattle.rv_memory.specs.HeldPages.{held_pages, pages_in};
 
@@ -116,12 +126,12 @@ impl Paged {
         let entry = image.entry;
         let mut flat = Flat::in_order(alloc, image, MADE_FROM)?;
         let first = flat.position_in_order(entry).unwrap_or(0);
-        let (low, high) = sides(&flat.segments);
+        let sides = sides_of(&flat.segments);
         let stack = flat.stack_index(MADE_FROM);
         let pages = pages_of(alloc, &flat.segments, first, stack, STACK_START)?;
         let room = Vec::with_capacity(alloc, STACK_BYTES)?;
         flat.bring_forward(first);
-        let nears = nears_of(&flat, index_behind(first, low), index_behind(first, high));
+        let nears = nears_of(&flat, sides_behind(first, sides));
         let top = flat.stack_index(MADE_FROM);
         Ok(Paged {
             flat,
@@ -194,8 +204,12 @@ impl Paged {
         let alloc = *self.room.allocator();
         let room = mem::replace(&mut self.room, Vec::new(alloc));
         self.flat.deepen(self.top, STACK_START, room);
-        let (low, high) = (self.nears.low.segment, self.nears.high.segment);
-        self.nears = nears_of(&self.flat, low, high);
+        let sides = Sides {
+            below: self.nears.below.segment,
+            low: self.nears.low.segment,
+            high: self.nears.high.segment,
+        };
+        self.nears = nears_of(&self.flat, sides);
         self.base = STACK_START;
     }
 
@@ -389,6 +403,57 @@ impl Paged {
         self.near(stretch.segment, stretch, address, bytes, Right::Read)
     }
 
+    /// The number of bytes that lie where the stack is not made yet: 0. In line it costs no more than a load elsewhere, and
+    /// only what no stretch holds comes here.
+    #[inline(always)]
+    fn read_unmade(&self, address: u64, bytes: u64) -> Option<u64>
+        ensures right { IfSome result (λ _. may (held_pages self.now) address bytes ToRead ≡ true) }
+        ensures number { IfSome result
+            (λ number. number ≡ number_at (held_pages self.now) address bytes) }
+        ensures bytes { IfSome result
+            (λ _. (k : ℕ) → k < bytes → (held_pages self.now).byte ((address + k) % 2 ^ 64) < 256) }
+    {
+        if self.is_unmade(address) && bytes <= self.base - address {
+            return Some(0);
+        }
+        None
+    }
+
+    /// The number of bytes that may be read, where the stretch below the two sides holds them.
+    #[inline(always)]
+    fn read_below(&self, address: u64, bytes: u64) -> Option<u64>
+        requires { IsWidth bytes }
+        ensures right { IfSome result (λ _. may (held_pages self.now) address bytes ToRead ≡ true) }
+        ensures number { IfSome result
+            (λ number. number ≡ number_at (held_pages self.now) address bytes) }
+        ensures bytes { IfSome result
+            (λ _. (k : ℕ) → k < bytes → (held_pages self.now).byte ((address + k) % 2 ^ 64) < 256) }
+    {
+        let stretch = self.nears.below.stretch(bytes);
+        self.near(stretch.segment, stretch, address, bytes, Right::Read)
+    }
+
+    /// The number of bytes that may be read, where the stretch on their side does not hold them.
+    #[inline(always)]
+    fn read_elsewhere(&self, address: u64, bytes: u64) -> Option<u64>
+        requires { IsWidth bytes }
+        ensures right { MatchOption result
+            (may (held_pages self.now) address bytes ToRead ≡ false)
+            (λ _. may (held_pages self.now) address bytes ToRead ≡ true) }
+        ensures number { IfSome result
+            (λ number. number ≡ number_at (held_pages self.now) address bytes) }
+        ensures bytes { IfSome result
+            (λ _. (k : ℕ) → k < bytes → (held_pages self.now).byte ((address + k) % 2 ^ 64) < 256) }
+    {
+        if let Some(number) = self.read_unmade(address, bytes) {
+            return Some(number);
+        }
+        if let Some(number) = self.read_below(address, bytes) {
+            return Some(number);
+        }
+        self.load_elsewhere(address, bytes, Right::Read)
+    }
+
     /// Puts bytes where the stretch on their side holds the address; whether it does.
     #[inline(always)]
     fn put_near(&mut self, address: u64, bytes: &[u8]) -> bool
@@ -569,7 +634,7 @@ impl Memory for Paged {
             Right::Execute => self.fetch(address, bytes),
             Right::Read => match self.read_near(address, bytes) {
                 Some(number) => Some(number),
-                None => self.load_elsewhere(address, bytes, right),
+                None => self.read_elsewhere(address, bytes),
             },
             Right::Write => self.load_elsewhere(address, bytes, right),
         }

@@ -71,6 +71,8 @@ pub struct Nears {
     pub low_written: Near,
     pub high: Near,
     pub high_written: Near,
+    /// Where a load looks after these.
+    pub below: Near,
 }
 
 /// The segment at the index, where it gives the right; else no access can begin in it.
@@ -112,22 +114,35 @@ fn bytes_before_end(flat: &Flat, start: u64, bytes: u64) -> u64
     bytes
 }
 
-/// The two segments, in the order of their addresses, where most loads and stores are: the last one, and below it the last
-/// that may be written, or else the next one. Linkers put data last, below the stack or above it.
-pub(crate) fn sides(segments: &[Segment]) -> (usize, usize) {
+/// The indices of three segments by ascending addresses.
+#[derive(Clone, Copy, Drop)]
+pub(crate) struct Sides {
+    pub below: usize,
+    pub low: usize,
+    pub high: usize,
+}
+
+/// The segments where most loads and stores are: the last one, below it the last that may be written, or else the next one,
+/// and the one below that. Linkers put data last, below the stack or above it, and constants below data.
+pub(crate) fn sides_of(segments: &[Segment]) -> Sides {
     let high = segments.len().saturating_sub(1);
     let low = segments[..high]
         .iter()
-        .rposition(|segment| is_given(segment, Right::Write));
-    (low.unwrap_or(high.saturating_sub(1)), high)
+        .rposition(|segment| is_given(segment, Right::Write))
+        .unwrap_or(high.saturating_sub(1));
+    Sides {
+        below: low.saturating_sub(1),
+        low,
+        high,
+    }
 }
 
-/// Where accesses look, with the indices of the lower and of the higher of two segments.
-pub(crate) fn nears_of(flat: &Flat, low: usize, high: usize) -> Nears
+/// Where accesses look, with these segments.
+pub(crate) fn nears_of(flat: &Flat, sides: Sides) -> Nears
     ensures { AreNear (pieces flat.now) result }
 {
     let code = near_of(flat, 0, Right::Execute);
-    let divide = match flat.segments.get(high) {
+    let divide = match flat.segments.get(sides.high) {
         Some(segment) => segment.address,
         None => 0,
     };
@@ -135,9 +150,10 @@ pub(crate) fn nears_of(flat: &Flat, low: usize, high: usize) -> Nears
         code,
         code_bytes: bytes_before_end(flat, code.start, code.room_1),
         divide,
-        low: near_of(flat, low, Right::Read),
-        low_written: near_of(flat, low, Right::Write),
-        high: near_of(flat, high, Right::Read),
-        high_written: near_of(flat, high, Right::Write),
+        low: near_of(flat, sides.low, Right::Read),
+        low_written: near_of(flat, sides.low, Right::Write),
+        high: near_of(flat, sides.high, Right::Read),
+        high_written: near_of(flat, sides.high, Right::Write),
+        below: near_of(flat, sides.below, Right::Read),
     }
 }

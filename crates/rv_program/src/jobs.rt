@@ -14,7 +14,7 @@ use rv_file_jobs::{code, dump, elf, names, objdump, raw, sizes, write_image};
 use rv_gdb_jobs::debug;
 use rv_guests::Guests;
 use rv_job::{Asked, Coverage, Debugged, Job, Results, Shell, Shown};
-use rv_source_jobs::{check_files, explain, list};
+use rv_source_jobs::{ListStyle, check_files, explain, list};
 use rv_system::{JobError, System, print};
 use rv_watched_jobs::{run_with_results, stats, trace};
 
@@ -42,9 +42,16 @@ pub(crate) fn run_job<S: Guests>(system: &mut S, job: &Job<'_>) -> Result<u8, Jo
         Job::Code(asked) => code(system, asked),
         Job::List {
             all,
+            debug,
             options,
             sources,
-        } => list(system, sources.as_slice(), *options, *all),
+        } => {
+            let style = ListStyle {
+                all: *all,
+                debug: *debug,
+            };
+            list(system, sources.as_slice(), *options, style)
+        }
         Job::Dump { file } => dump(system, file),
         Job::Size { files, format } => sizes(system, files.as_slice(), *format),
         Job::Names { map, file, format } => names(system, *map, file, *format),

@@ -1,4 +1,4 @@
--- The fields of the branches and jumps of sources whose form is below its largest take their values where their text is placed.
+-- Where text is placed, the fields of branches and jumps whose form is below its largest take their values.
 
 use Rattle.std.proofs.Common.{◌≡◌, ℕ, suc, ◌+◌, ◌%◌, ◌^◌, ◌≤◌, ◌<◌, ◌⊎◌, inl, inr, Bool, true, false, cond, ◌&&◌, List, [], ◌∷◌, map, pos, ◌-ℤ◌, Option, Some, None, option_map, refl, sym, ap, ◌∙◌, subst, arith}
 use Rattle.std.specs.Prelude.{◌==◌, ◌-◌, filter, not, nat_le, nat_lt, if◌then◌else◌, option_and_then}

@@ -20,4 +20,5 @@ pub mod NearsLemmas
 pub mod NearbyLemmas
 -- That the field of a statement which names a parcel is known as such by the statement's row.
 pub mod ParcelsLemmas
+-- Where text is placed, the fields of branches and jumps whose form is below its largest take their values.
 pub mod BranchedLemmas

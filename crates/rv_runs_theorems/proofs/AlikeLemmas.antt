@@ -7,7 +7,8 @@ use Rattle.rv_isa_laws.specs.Memory.{Mem, Right, Read, Write, Execute, may, some
 use Rattle.std.proofs.lemmas.List.{length-take}
 use Rattle.rv_list_laws.proofs.NumbersLemmas.{mod_below}
 use Rattle.rv_isa_laws.specs.Hart.{Hart, LoadText, LoadOutside, StoreText, StoreOutside, register}
-use Rattle.rv_isa_laws.specs.Effect.{Effect, Goes, Loads, Stores, Reserves, Conditional, Updates, Calls, Breaks, Next, On, Over, apply, environment_call, reads, writes, load_refusal, store_refusal, answer}
+use Rattle.rv_isa_laws.specs.Effect.{Effect, Goes, Loads, Stores, Reserves, Conditional, Updates, Calls, Breaks, Next, On, Over, environment_call, reads, writes, load_refusal, store_refusal, answer}
+use Rattle.rv_board_laws.specs.Device.{Device, Plain, Serial, Constant, Power, is_latched, with_no_data, received, loaded, sent, low_bytes, stored, apply_on}
 
 -- memory m of the machine beside memory s of the source run: both have these rights, they are equal where something can be
 -- read, and what can be executed is as it was at first
@@ -32,13 +33,13 @@ module _ (has : ℕ → Right → Bool) where
   abbrev pub bare : Mem
   bare = record { byte = λ a. 0; has = has }
 
-  pub may_same : (m : Mem) → ((a : ℕ) → a < 2 ^ 64 → (right : Right) → m.has a right ≡ has a right) → (a n : ℕ) (right : Right) → may m a n right ≡ may bare a n right
-  may_same m same a zero right = refl
-  may_same m same a (suc n) right = ap (λ b. b && may m (a + 1) n right) (same (a % 2 ^ 64) (mod_below a) right) ∙ ap (λ b. has (a % 2 ^ 64) right && b) (may_same m same (a + 1) n right)
+  pub may_same : (right : Right) (m : Mem) → ((a : ℕ) → a < 2 ^ 64 → m.has a right ≡ has a right) → (a n : ℕ) → may m a n right ≡ may bare a n right
+  may_same right m same a zero = refl
+  may_same right m same a (suc n) = ap (λ b. b && may m (a + 1) n right) (same (a % 2 ^ 64) (mod_below a)) ∙ ap (λ b. has (a % 2 ^ 64) right && b) (may_same right m same (a + 1) n)
 
-  some_same : (m : Mem) → ((a : ℕ) → a < 2 ^ 64 → (right : Right) → m.has a right ≡ has a right) → (a n : ℕ) (right : Right) → some_has m a n right ≡ some_has bare a n right
-  some_same m same a zero right = refl
-  some_same m same a (suc n) right = ap (λ b. b || some_has m (a + 1) n right) (same (a % 2 ^ 64) (mod_below a) right) ∙ ap (λ b. has (a % 2 ^ 64) right || b) (some_same m same (a + 1) n right)
+  some_same : (right : Right) (m : Mem) → ((a : ℕ) → a < 2 ^ 64 → m.has a right ≡ has a right) → (a n : ℕ) → some_has m a n right ≡ some_has bare a n right
+  some_same right m same a zero = refl
+  some_same right m same a (suc n) = ap (λ b. b || some_has m (a + 1) n right) (same (a % 2 ^ 64) (mod_below a)) ∙ ap (λ b. has (a % 2 ^ 64) right || b) (some_same right m same (a + 1) n)
 
   pub number_same : (right : Right) (m s : Mem) → ((a : ℕ) → a < 2 ^ 64 → has a right ≡ true → m.byte a ≡ s.byte a) → (a n : ℕ) → may bare a n right ≡ true → number_at m a n ≡ number_at s a n
   number_same right m s same a zero ok = refl
@@ -57,11 +58,15 @@ module _ (has : ℕ → Right → Bool) where
       ap (λ b. b ∷ bytes_at m (a + 1) n) low ∙ ap (λ bs. s.byte (a % 2 ^ 64) ∷ bs) high
 
 module _ (has : ℕ → Right → Bool) (fixed : (a : ℕ) → a < 2 ^ 64 → has a Execute ≡ true → has a Write ≡ false) (first : Mem) where
-  may_both : (m s : Mem) → Beside has first m s → (a n : ℕ) (right : Right) → may m a n right ≡ may s a n right
-  may_both m s b a n right = may_same has m b.machine a n right ∙ sym (may_same has s b.source a n right)
+  -- what is allowed in either, by the rights alone
+  may_here : (right : Right) (m s : Mem) → Beside has first m s → (a n : ℕ) → may m a n right ≡ may (bare has) a n right
+  may_here right m s b a n = may_same has right m (λ x u. b.machine x u right) a n
 
-  some_both : (m s : Mem) → Beside has first m s → (a n : ℕ) (right : Right) → some_has m a n right ≡ some_has s a n right
-  some_both m s b a n right = some_same has m b.machine a n right ∙ sym (some_same has s b.source a n right)
+  may_there : (right : Right) (m s : Mem) → Beside has first m s → (a n : ℕ) → may s a n right ≡ may (bare has) a n right
+  may_there right m s b a n = may_same has right s (λ x u. b.source x u right) a n
+
+  some_both : (right : Right) (m s : Mem) → Beside has first m s → (a n : ℕ) → some_has m a n right ≡ some_has s a n right
+  some_both right m s b a n = some_same has right m (λ x u. b.machine x u right) a n ∙ sym (some_same has right s (λ x u. b.source x u right) a n)
 
   -- no byte that can be executed is one that can be written
   apart : (x a : ℕ) → x < 2 ^ 64 → has x Execute ≡ true → has a Write ≡ true → (x == a) ≡ true → ⊥
@@ -104,10 +109,10 @@ module _ (has : ℕ → Right → Bool) (fixed : (a : ℕ) → a < 2 ^ 64 → ha
   on_tests false false d x y x' y' e f go no_go = no_go
 
   load_same : (m s : Mem) → Beside has first m s → (a n : ℕ) → load_refusal m a n ≡ load_refusal s a n
-  load_same m s beside a n = ap (λ b. if b then LoadText a else LoadOutside a) (some_both m s beside a n Execute)
+  load_same m s beside a n = ap (λ b. if b then LoadText a else LoadOutside a) (some_both Execute m s beside a n)
 
   store_same : (m s : Mem) → Beside has first m s → (a n : ℕ) → store_refusal m a n ≡ store_refusal s a n
-  store_same m s beside a n = ap (λ b. if b then StoreText a else StoreOutside a) (some_both m s beside a n Execute)
+  store_same m s beside a n = ap (λ b. if b then StoreText a else StoreOutside a) (some_both Execute m s beside a n)
 
   reads_alike : (h : Hart) (m s : Mem) → Beside has first m s → Alike has first (reads h m) (reads h s)
   reads_alike h m s beside =
@@ -117,7 +122,7 @@ module _ (has : ℕ → Right → Bool) (fixed : (a : ℕ) → a < 2 ^ 64 → ha
       let short : length bs ≤ a2 = omega (arith, length-take {A = ℕ}) in
       on_test (register h 10 == 0) _ _ _ _
       (on_tests (may m a1 a2 Write) (may s a1 a2 Write) (may (bare has) a1 a2 Write) _ _ _ _
-      (may_same has m beside.machine a1 a2 Write) (may_same has s beside.source a1 a2 Write)
+      (may_here Write m s beside a1 a2) (may_there Write m s beside a1 a2)
       (λ ok. (refl, bytes_put bs m s beside a1 a2 short ok))
       (refl, beside))
       (refl, beside)
@@ -128,7 +133,7 @@ module _ (has : ℕ → Right → Bool) (fixed : (a : ℕ) → a < 2 ^ 64 → ha
       let a2 = register h 12 in
       on_test ((register h 10 == 1) || (register h 10 == 2)) _ _ _ _
       (on_tests (may m a1 a2 Read) (may s a1 a2 Read) (may (bare has) a1 a2 Read) _ _ _ _
-      (may_same has m beside.machine a1 a2 Read) (may_same has s beside.source a1 a2 Read)
+      (may_here Read m s beside a1 a2) (may_there Read m s beside a1 a2)
       (λ ok. (ap (λ bs. answer (record h { console = h.console ++ bs }) a2) (bytes_same has m s beside.read a1 a2 ok), beside))
       (refl, beside))
       (refl, beside)
@@ -143,38 +148,82 @@ module _ (has : ℕ → Right → Bool) (fixed : (a : ℕ) → a < 2 ^ 64 → ha
   put_where true m s beside a n v ok = number_put n m s beside a v ok
   put_where false m s beside a n v ok = beside
 
-  -- an effect does the same beside
-  pub apply_alike : (e : Effect) (m s : Mem) → Beside has first m s → Alike has first (apply e m) (apply e s)
-  apply_alike (Goes next) m s beside = (refl, beside)
-  apply_alike (Loads a n next) m s beside =
+  -- ---- devices
+
+  -- the test of the divisor's bit is the same
+  latched_same : (m s : Mem) → Beside has first m s → (a : ℕ) → is_latched m a ≡ is_latched s a
+  latched_same m s beside a = by (may (bare has) (a + 3) 1 Read) (may m (a + 3) 1 Read) (may s (a + 3) 1 Read) (may_here Read m s beside (a + 3) 1) (may_there Read m s beside (a + 3) 1) (number_same has Read m s beside.read (a + 3) 1)
+    where
+      by : (t b c : Bool) → b ≡ t → c ≡ t → (t ≡ true → number_at m (a + 3) 1 ≡ number_at s (a + 3) 1)
+          → (b && (number_at m (a + 3) 1 / 128 % 2 == 1)) ≡ (c && (number_at s (a + 3) 1 / 128 % 2 == 1))
+      by t true true e f same = ap (λ n. n / 128 % 2 == 1) (same (sym e))
+      by t true false e f same = absurd (let g : true ≡ false = e ∙ sym f in cc)
+      by t false true e f same = absurd (let g : true ≡ false = f ∙ sym e in cc)
+      by t false false e f same = refl
+
+  no_data_beside : (m s : Mem) → Beside has first m s → (a : ℕ) → Beside has first (with_no_data m a) (with_no_data s a)
+  no_data_beside m s beside a = by (may (bare has) (a + 5) 1 Write) (may m (a + 5) 1 Write) (may s (a + 5) 1 Write) (may_here Write m s beside (a + 5) 1) (may_there Write m s beside (a + 5) 1) (number_put 1 m s beside (a + 5) 0x60)
+    where
+      by : (t b c : Bool) → b ≡ t → c ≡ t → (t ≡ true → Beside has first (with_number m (a + 5) 1 0x60) (with_number s (a + 5) 1 0x60))
+          → Beside has first (if b then with_number m (a + 5) 1 0x60 else m) (if c then with_number s (a + 5) 1 0x60 else s)
+      by t true true e f put = put (sym e)
+      by t true false e f put = absurd (let g : true ≡ false = e ∙ sym f in cc)
+      by t false true e f put = absurd (let g : true ≡ false = f ∙ sym e in cc)
+      by t false false e f put = beside
+
+  received_alike : (input : List ℕ) (m s : Mem) → Beside has first m s → (a n : ℕ) (next : ℕ → Hart) → Alike has first (received input m a n next) (received input s a n next)
+  received_alike [] m s beside a n next = (refl, no_data_beside m s beside a)
+  received_alike (b ∷ rest) m s beside a n next = (refl, beside)
+
+  loaded_alike : (v : Device) (m s : Mem) → Beside has first m s → (a n : ℕ) (next : ℕ → Hart) → Alike has first (loaded v m a n next) (loaded v s a n next)
+  loaded_alike Plain m s beside a n next = load_same m s beside a n
+  loaded_alike Serial m s beside a n next =
+      on_tests (is_latched m a) (is_latched s a) (is_latched s a) _ _ _ _ (latched_same m s beside a) refl
+      (λ latched. (refl, beside))
+      (received_alike (next 0).input m s beside a n next)
+  loaded_alike (Constant v) m s beside a n next = (refl, beside)
+  loaded_alike Power m s beside a n next = (refl, beside)
+
+  stored_alike : (device : Device) (m s : Mem) → Beside has first m s → (a n v : ℕ) (next : Hart) → Alike has first (stored device m a n v next) (stored device s a n v next)
+  stored_alike Plain m s beside a n v next = store_same m s beside a n
+  stored_alike Serial m s beside a n v next = (ap (λ t. if t then next else sent next v) (latched_same m s beside a), beside)
+  stored_alike (Constant c) m s beside a n v next = (refl, beside)
+  stored_alike Power m s beside a n v next =
+      on_test (low_bytes n v % 2 ^ 16 == 0x5555) _ _ _ _ refl
+      (on_test (low_bytes n v % 2 ^ 16 == 0x3333) _ _ _ _ refl (refl, beside))
+
+  -- an effect does the same beside, whatever devices there are
+  pub apply_alike : (d : ℕ → Device) (e : Effect) (m s : Mem) → Beside has first m s → Alike has first (apply_on d e m) (apply_on d e s)
+  apply_alike d (Goes next) m s beside = (refl, beside)
+  apply_alike d (Loads a n next) m s beside =
       on_tests (may m a n Read) (may s a n Read) (may (bare has) a n Read) _ _ _ _
-      (may_same has m beside.machine a n Read) (may_same has s beside.source a n Read)
+      (may_here Read m s beside a n) (may_there Read m s beside a n)
       (λ ok. (ap next (number_same has Read m s beside.read a n ok), beside))
-      (load_same m s beside a n)
-  apply_alike (Stores a n v next) m s beside =
+      (loaded_alike (d a) m s beside a n next)
+  apply_alike d (Stores a n v next) m s beside =
       on_tests (may m a n Write) (may s a n Write) (may (bare has) a n Write) _ _ _ _
-      (may_same has m beside.machine a n Write) (may_same has s beside.source a n Write)
+      (may_here Write m s beside a n) (may_there Write m s beside a n)
       (λ ok. (refl, number_put n m s beside a v ok))
-      (store_same m s beside a n)
-  apply_alike (Reserves a n next) m s beside =
+      (stored_alike (d a) m s beside a n v next)
+  apply_alike d (Reserves a n next) m s beside =
       on_test (a % n == 0) _ _ _ _
       (on_tests (may m a n Read) (may s a n Read) (may (bare has) a n Read) _ _ _ _
-      (may_same has m beside.machine a n Read) (may_same has s beside.source a n Read)
+      (may_here Read m s beside a n) (may_there Read m s beside a n)
       (λ ok. (ap next (number_same has Read m s beside.read a n ok), beside))
       (load_same m s beside a n))
       refl
-  apply_alike (Conditional a n v reserved next) m s beside =
+  apply_alike d (Conditional a n v reserved next) m s beside =
       on_test (a % n == 0) _ _ _ _
       (on_tests (may m a n Write) (may s a n Write) (may (bare has) a n Write) _ _ _ _
-      (may_same has m beside.machine a n Write) (may_same has s beside.source a n Write)
+      (may_here Write m s beside a n) (may_there Write m s beside a n)
       (λ ok. (refl, put_where reserved m s beside a n v ok))
       (store_same m s beside a n))
       refl
-  apply_alike (Updates a n new next) m s beside =
+  apply_alike d (Updates a n new next) m s beside =
       on_test (a % n == 0) _ _ _ _
       (on_tests (may m a n Read && may m a n Write) (may s a n Read && may s a n Write) (may (bare has) a n Read && may (bare has) a n Write) _ _ _ _
-      (ap (λ b. b && may m a n Write) (may_same has m beside.machine a n Read) ∙ ap (λ b. may (bare has) a n Read && b) (may_same has m beside.machine a n Write))
-      (ap (λ b. b && may s a n Write) (may_same has s beside.source a n Read) ∙ ap (λ b. may (bare has) a n Read && b) (may_same has s beside.source a n Write))
+      (ap (λ b. b && may m a n Write) (may_here Read m s beside a n) ∙ ap (λ b. may (bare has) a n Read && b) (may_here Write m s beside a n))
+      (ap (λ b. b && may s a n Write) (may_there Read m s beside a n) ∙ ap (λ b. may (bare has) a n Read && b) (may_there Write m s beside a n))
       (λ ok.
       let parts = and_parts (may (bare has) a n Read) (may (bare has) a n Write) ok in
       let old = number_same has Read m s beside.read a n parts.0 in (
@@ -184,5 +233,5 @@ module _ (has : ℕ → Right → Bool) (fixed : (a : ℕ) → a < 2 ^ 64 → ha
       ))
       (store_same m s beside a n))
       refl
-  apply_alike (Calls next) m s beside = calls_alike next m s beside
-  apply_alike Breaks m s beside = refl
+  apply_alike d (Calls next) m s beside = calls_alike next m s beside
+  apply_alike d Breaks m s beside = refl

@@ -1,18 +1,17 @@
 -- The memory of a linked program's image realizes its sources: any number of sections, code and data.
 
-use Rattle.std.proofs.Common.{◌≡◌, ℕ, suc, ◌+◌, ◌-◌, ◌%◌, ◌^◌, ◌<◌, ◌≤◌, Bool, true, false, List, [], ◌∷◌, ◌++◌, length, refl, sym, ap, ◌∙◌, subst, arith, map, Option, Some, None, length-append, ◌⊎◌, inl, inr}
+use Rattle.std.proofs.Common.{◌≡◌, ℕ, suc, ◌+◌, ◌-◌, ◌%◌, ◌^◌, ◌<◌, ◌≤◌, Bool, true, false, List, [], ◌∷◌, ◌++◌, length, refl, sym, ap, ◌∙◌, subst, arith, map, Option, Some, None, is_some, length-append, ◌⊎◌, inl, inr}
 use Rattle.std.proofs.Math.Nat.{le_trans}
 use Rattle.std.proofs.lemmas.Bool.Decides.{nat_tests}
 use Rattle.std.proofs.lemmas.Bool.{cases_lt, and_parts, and_from, eqb-true}
-use Rattle.std.proofs.lemmas.List.{length-replicate, get_or-replicate}
-use Rattle.std.proofs.Math.ListN.{get_or-eq_default}
+use Rattle.std.proofs.lemmas.List.{length-replicate}
 use Rattle.std.specs.Prelude.{◌&&◌, ◌||◌, ◌==◌, not, nat_lt, if◌then◌else◌, slice_index, slice_index_or, flat_map, option_map, option_and_then, bytes_eq, codes, IsTrue, max}
 use Rattle.std.specs.List.{AllByRecursion, find, list_any}
 use Rattle.rv_list_laws.proofs.EachLemmas.{each_append, each_map, each_pair}
 use Rattle.rv_list_laws.proofs.TruthLemmas.{one_case_of_four, or_three}
 use Rattle.rv_list_laws.proofs.FindLemmas.{none_found}
 use Rattle.rv_size_laws.specs.Alignment.{aligned}
-use Rattle.rv_isa_laws.specs.Bytes.{little_endian, zeros}
+use Rattle.rv_isa_laws.specs.Bytes.{little_endian}
 use Rattle.rv_isa.specs.declared.instruction.Inst.{Inst}
 use Rattle.rv_isa.specs.Ranges.{IsValid}
 use Rattle.rv_isa_laws.specs.Memory.{Mem, Read, Write, Execute}
@@ -21,6 +20,7 @@ use Rattle.rv_parcel.specs.declared.form.Compressed.{Compressed}
 use Rattle.rv_parcel.specs.Parcel.{parcel, StandsFor}
 use Rattle.rv_isa_laws.specs.Reader.{Reader}
 use Rattle.rv_isa_laws.specs.Run.{NoInstruction, Got, fetch}
+use Rattle.rv_board_laws.proofs.PlatformLemmas.{zero_index}
 use Rattle.rv_statement_laws.specs.Statement.{StatementKind, Label, Numbered, Instruction, Directs, Statement, Expression, Directive, Sets, Values, Strings, Zeros}
 use Rattle.rv_statement_laws.specs.declared.directive.Binding.{Binding}
 use Rattle.rv_pseudo_laws.specs.Code.{Part}
@@ -39,7 +39,7 @@ use Rattle.rv_image_laws.specs.Free.{highest, free_until}
 use Rattle.rv_image_laws.proofs.FreeLemmas.{free_low}
 use Rattle.rv_image_laws.specs.Executable.{linked_image}
 use Rattle.rv_isa_laws.specs.Platform.{stack_start, stack_end}
-use Rattle.rv_image_laws.specs.Memory.{mem_of}
+use Rattle.rv_image_laws.specs.Memory.{segment_at, mem_of}
 use Rattle.rv_source_laws.specs.Located.{located, left, without_address}
 use Rattle.rv_source_laws.specs.Exports.{names_where}
 use Rattle.rv_source_laws.specs.Program.{MaybeMapped, Mapped, Program, Export, export, exports_at, exports_where, candidates, chosen, program, number, seated, mapped_of, address_of, tables_in}
@@ -50,6 +50,7 @@ use Rattle.rv_source_laws.specs.Start.{is_within, is_in, right_at, first_byte, b
 use Rattle.rv_source_laws.specs.SourceRun.{Starts, Gap, Outside, starts_or_inside, place, found}
 use Rattle.rv_source_laws.proofs.HeldLemmas.{ContributionHeld, DirectiveHeld, IsHeld, Held}
 use Rattle.rv_source_laws.proofs.LeftLemmas.{held_left, all_left}
+use Rattle.rv_chain_laws.specs.PlatformRun.{lies_at}
 use Rattle.rv_chain_laws.specs.Realizes.{StandsIn, HoldsLines, Realizes}
 use Rattle.rv_chain_laws.specs.Contents.{IsEncoded, AreEncoded, IsWritten, contents, IsLinked}
 use Rattle.rv_chain_laws.specs.Headline.{RunsAgree}
@@ -59,7 +60,7 @@ use Rattle.rv_runs_theorems.proofs.RegionsLemmas.{within_parts, bytes_front, Siz
 use Rattle.rv_runs_theorems.proofs.HeldLemmas.{held_of}
 use Rattle.rv_runs_theorems.proofs.HomesLemmas.{sections_of, sections_in, IsSeated, IsAtHome, seats, homes, to_blocks, from_blocks}
 use Rattle.rv_runs_theorems.proofs.AlignmentsLemmas.{even_files}
-use Rattle.rv_runs_theorems.proofs.LaidOutLemmas.{AreRegions, apart, rights-are, text_held, rodata_held, data_held, bss_held, stack_zero, text_off_stack}
+use Rattle.rv_runs_theorems.proofs.LaidOutLemmas.{AreRegions, apart, lies-are, rights-are, text_held, rodata_held, data_held, bss_held, stack_zero, text_off_stack}
 use Rattle.rv_runs_theorems.proofs.AscendingLemmas.{true_false}
 
 -- ---- the lines of a statement
@@ -133,12 +134,6 @@ module _ (reader : Reader Spells StandsFor) (m : Mem) (stop : ℕ) (room : stop 
 no_bytes : (b : Bool) (r : Row) → IsRowOf (if b then Some [] else None) r → 0 ≡ r.bytes
 no_bytes true r (valid, n, lo, hi, even) = let e : r.instructions ≡ 0 = n in omega arith
 no_bytes false r h = absurd h
-
-zero_index : (k n : ℕ) → slice_index (zeros k) n ≡ 0
-zero_index k n = elim (cases_lt n k) [
-  | inl inside ↦ get_or-replicate {A = ℕ} k n 0 0 inside
-  | inr past ↦ get_or-eq_default (zeros k) 0 {n = n} (subst (λ x. x ≤ n) (sym (length-replicate {A = ℕ} k 0)) past)
-]
 
 padding_code : (b : Bool) (p : Program) (s : Mapped) (d : Directive) → b ≡ true → IsPaddingIn b p s d → IsRowOf (expansion p s) s.row
 padding_code true p s d e h = h.0
@@ -248,6 +243,12 @@ gap_when true true o e = (refl, refl)
 gap_when true false (Some k) e = absurd (cc)
 gap_when true false None e = absurd (cc)
 gap_when false g o e = absurd (cc)
+
+outside_when : (t g : Bool) (o : Option Mapped) → (if t then (if g then Gap else starts_or_inside o) else Outside) ≡ Outside → t ≡ false
+outside_when true true o e = absurd (cc)
+outside_when true false (Some s) e = absurd (cc)
+outside_when true false None e = absurd (cc)
+outside_when false g o e = refl
 
 -- what is found passes the test, and has what all have
 pub all_found : {X : Type 0} (P : X → Type 0) (test : X → Bool) (xs : List X) (x : X) → find test xs ≡ Some x → AllByRecursion P xs → P x × (test x ≡ true)
@@ -651,10 +652,15 @@ module _ (sources : List (List Statement)) (a : ℕ) (relax gc : Bool) (l : Link
     realizes_linked = record {
       rows = λ pc s u e. rows_hold pc s e;
       gaps = λ pc u even e. gaps_spell pc even e;
+      outside = λ pc u e. outside_when (is_in map_of.text pc) (list_any (λ gap. is_in gap pc) map_of.gaps) (found p.mapped pc) e;
       rights = λ x u right. rights-are l are_regions x right;
       bytes = λ x u readable. bytes_are x readable;
       fixed = λ x u inside. unwritten x inside;
     }
+
+    -- where its segments lie
+    pub lies_linked : (x : ℕ) → is_some (segment_at (linked_image l).segments x) ≡ lies_at map_of x
+    lies_linked = lies-are l are_regions
 
     -- the entry is the place of a label in the text
     lies_in_text : AllByRecursion (In goes_to_text (LiesIn map_of.text.start map_of.text.end)) p.mapped

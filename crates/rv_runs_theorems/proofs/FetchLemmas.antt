@@ -10,9 +10,9 @@ use Rattle.rv_isa_laws.specs.Reader.{Reader}
 use Rattle.rv_isa_laws.specs.Run.{Fetched, NoRight, Got, spelled, length_at, fetch}
 use Rattle.rv_runs_theorems.proofs.AlikeLemmas.{bare, may_same, number_same}
 
--- a memory with these rights, in which what can be executed is as it was at first
+-- a memory in which the same can be executed, as it was at first
 pub record Text (has : ℕ → Right → Bool) (first m : Mem) : Type 0 where
-  pub rights : (a : ℕ) → a < 2 ^ 64 → (right : Right) → m.has a right ≡ has a right
+  pub rights : (a : ℕ) → a < 2 ^ 64 → m.has a Execute ≡ has a Execute
   pub kept : (a : ℕ) → a < 2 ^ 64 → has a Execute ≡ true → m.byte a ≡ first.byte a
 
 module _ {Spells StandsFor : ℕ → Inst → Type 0} (reader : Reader Spells StandsFor) where
@@ -42,15 +42,15 @@ module _ {Spells StandsFor : ℕ → Inst → Type 0} (reader : Reader Spells St
   even_bytes m a i b e =
       even_length (m.byte (a % 2 ^ 64) % 4 == 3) b (got_if (may m a (length_at m a) Execute) (length_at m a) _ i b e)
 
-  module _ (has : ℕ → Right → Bool) (first : Mem) (rights : (a : ℕ) → a < 2 ^ 64 → (right : Right) → first.has a right ≡ has a right) where
+  module _ (has : ℕ → Right → Bool) (first : Mem) (rights : (a : ℕ) → a < 2 ^ 64 → first.has a Execute ≡ has a Execute) where
     by_length : (m : Mem) → Text has first m → (a : ℕ) (t : Bool) → fetch_of (if t then 4 else 2) m a ≡ fetch_of (if t then 4 else 2) first a
     by_length m text a true =
         same_if (may m a 4 Execute) (may first a 4 Execute) (may (bare has) a 4 Execute) _ _ _
-        (may_same has m text.rights a 4 Execute) (may_same has first rights a 4 Execute)
+        (may_same has Execute m text.rights a 4) (may_same has Execute first rights a 4)
         (λ ok. ap (λ k. spelled 4 (reader.word k)) (number_same has Execute m first text.kept a 4 ok))
     by_length m text a false =
         same_if (may m a 2 Execute) (may first a 2 Execute) (may (bare has) a 2 Execute) _ _ _
-        (may_same has m text.rights a 2 Execute) (may_same has first rights a 2 Execute)
+        (may_same has Execute m text.rights a 2) (may_same has Execute first rights a 2)
         (λ ok. ap (λ k. spelled 2 (reader.parcel k)) (number_same has Execute m first text.kept a 2 ok))
 
     pub fetch_kept : (m : Mem) → Text has first m → (a : ℕ) → has (a % 2 ^ 64) Execute ≡ true → fetch reader m a ≡ fetch reader first a
@@ -62,8 +62,8 @@ module _ {Spells StandsFor : ℕ → Inst → Type 0} (reader : Reader Spells St
     no_right_of m a true e = ap (λ b. if b && may m (a + 1) 3 Execute then spelled 4 (reader.word (number_at m a 4)) else NoRight) e
     no_right_of m a false e = ap (λ b. if b && may m (a + 1) 1 Execute then spelled 2 (reader.parcel (number_at m a 2)) else NoRight) e
 
-    pub no_right : (m : Mem) → ((a : ℕ) → a < 2 ^ 64 → (right : Right) → m.has a right ≡ has a right) → (a : ℕ) → has (a % 2 ^ 64) Execute ≡ false → fetch reader m a ≡ NoRight
-    no_right m same a none = no_right_of m a (m.byte (a % 2 ^ 64) % 4 == 3) (same (a % 2 ^ 64) (mod_below a) Execute ∙ none)
+    pub no_right : (m : Mem) → ((a : ℕ) → a < 2 ^ 64 → m.has a Execute ≡ has a Execute) → (a : ℕ) → has (a % 2 ^ 64) Execute ≡ false → fetch reader m a ≡ NoRight
+    no_right m same a none = no_right_of m a (m.byte (a % 2 ^ 64) % 4 == 3) (same (a % 2 ^ 64) (mod_below a) ∙ none)
 
     -- what was fetched at first is fetched at any time
     pub fetched : (m : Mem) → Text has first m → (a : ℕ) (x : Fetched) → (x ≡ NoRight → ⊥) → fetch reader first a ≡ x → fetch reader m a ≡ x

@@ -1,6 +1,6 @@
 -- The memory of a linked program's image: its rights are those of the map's regions, and its bytes are theirs.
 
-use Rattle.std.proofs.Common.{◌≡◌, ℕ, suc, ◌+◌, ◌-◌, ◌<◌, ◌≤◌, Bool, true, false, List, [], ◌∷◌, ◌++◌, length, refl, sym, ap, ◌∙◌, subst, arith, map, append_assoc, length-append, Option, Some, None, inl, inr}
+use Rattle.std.proofs.Common.{◌≡◌, ℕ, suc, ◌+◌, ◌-◌, ◌<◌, ◌≤◌, Bool, true, false, List, [], ◌∷◌, ◌++◌, length, refl, sym, ap, ◌∙◌, subst, arith, map, append_assoc, length-append, Option, Some, None, is_some, inl, inr}
 use Rattle.std.proofs.lemmas.Bool.Decides.{nat_tests}
 use Rattle.std.proofs.lemmas.Bool.{eqb-true, not-false}
 use Rattle.std.proofs.lemmas.List.{length-replicate}
@@ -17,6 +17,7 @@ use Rattle.rv_image_laws.specs.Segment.{Segment}
 use Rattle.rv_isa_laws.specs.Platform.{stack_start, stack_end}
 use Rattle.rv_image_laws.specs.Memory.{mem_of, lies_in, segment_at, byte_in, right_in}
 use Rattle.rv_source_laws.specs.Start.{is_within, is_in, right_at}
+use Rattle.rv_chain_laws.specs.PlatformRun.{lies_at}
 use Rattle.rv_runs_theorems.proofs.WordsLemmas.{HasBytes, bytes_behind}
 use Rattle.rv_runs_theorems.proofs.RegionsLemmas.{bytes_front}
 
@@ -92,6 +93,12 @@ module _ (a b c : ℕ) (t r d : List ℕ) where
   reads false true in_d stack f g = refl
   reads false false true stack f g = refl
   reads false false false stack f g = refl
+
+  is_picked : (in_t in_r in_d : Bool) → is_some (picked in_t in_r in_d) ≡ (in_t || in_r || in_d)
+  is_picked true in_r in_d = refl
+  is_picked false true in_d = refl
+  is_picked false false true = refl
+  is_picked false false false = refl
 
   byte_text : (in_t in_r in_d : Bool) (x : ℕ) → in_t ≡ true → byte_in (picked in_t in_r in_d) x ≡ slice_index t (x - a)
   byte_text true in_r in_d x e = refl
@@ -185,6 +192,10 @@ module _ (l : Linked) (are : AreRegions l) where
       (is_in l.map.text x) (is_within l.map.rodata.start e x) (is_within l.map.data.start (l.map.data.start + length d) x)) length-r
       ∙ ap (λ e. pick (text_part l.map.text.start l.map.rodata.start l.map.data.start t r d) (rodata_part l.map.text.start l.map.rodata.start l.map.data.start t r d) (data_part l.map.text.start l.map.rodata.start l.map.data.start t r d)
       (is_in l.map.text x) (is_in l.map.rodata x) (is_within l.map.data.start e x)) length-d
+
+  -- the segments lie where the program does
+  pub lies-are : (x : ℕ) → is_some (segment_at (linked_image l).segments x) ≡ lies_at l.map x
+  lies-are x = ap (λ o. is_some o) (segment-is x) ∙ is_picked _ _ _ t r d (is_in l.map.text x) (is_in l.map.rodata x) (is_within l.map.data.start l.map.bss.end x)
 
   text_rodata : (x : ℕ) → is_in l.map.text x ≡ true → is_in l.map.rodata x ≡ false
   text_rodata x = apart l.map.text.start l.map.text.end l.map.rodata.start l.map.rodata.end x are.rodata_after

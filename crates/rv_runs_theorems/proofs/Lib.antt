@@ -44,6 +44,8 @@ pub mod LaidOutLemmas
 pub mod AlignmentsLemmas
 -- The memory of a linked program's image realizes its sources: any number of sections, code and data.
 pub mod ContentsLemmas
+-- On every platform the memory of a linked program realizes its sources, so its run agrees with theirs.
+pub mod PlatformLemmas
 -- Every list has an order: its elements ascend, and those that tie stand as they stood.
 pub mod AscendingLemmas
 -- The instructions of a statement stand at the front of its bytes, one after another.

@@ -1,11 +1,12 @@
 -- What an effect keeps of the hart, the step that it comes to keeps as well.
 
-use Rattle.std.proofs.Common.{◌⊎◌, inl, inr, ℕ, ◌%◌, ◌^◌, ◌<◌, ◌≤◌, arith, Bool, true, false, List, ◌++◌, length, drop}
+use Rattle.std.proofs.Common.{◌⊎◌, inl, inr, ℕ, ◌%◌, ◌^◌, ◌<◌, ◌≤◌, arith, Bool, true, false, List, [], ◌∷◌, ◌++◌, length, drop}
 use Rattle.std.specs.Prelude.{◌&&◌, ◌||◌, ◌==◌, if◌then◌else◌, min}
 use Rattle.rv_isa_laws.specs.Memory.{Mem, Read, Write, may}
 use Rattle.rv_isa_laws.specs.Hart.{Hart, register}
-use Rattle.rv_isa_laws.specs.Effect.{Effect, Goes, Loads, Stores, Reserves, Conditional, Updates, Calls, Breaks, Next, On, Over, apply, environment_call, answer, bad_file, bad_address, no_call}
+use Rattle.rv_isa_laws.specs.Effect.{Effect, Goes, Loads, Stores, Reserves, Conditional, Updates, Calls, Breaks, Next, On, Over, environment_call, answer, bad_file, bad_address, no_call}
 use Rattle.rv_isa_laws.specs.Kept.{GoesOn}
+use Rattle.rv_board_laws.specs.Device.{Device, Plain, Serial, Constant, Power, is_latched, received, loaded, sent, low_bytes, stored, apply_on}
 
 abbrev pub OnNext : (Hart → Type 0) → Next → Type 0
 OnNext P (On g m) = P g
@@ -58,12 +59,34 @@ module _ (P : Hart → Type 0) (kept : IsKept P) where
       (kept.answers h bad_file (inr (omega arith)) ok))
       (on_if (register h 17 == 93) _ _ tt (kept.answers h no_call (inr (omega arith)) ok)))
 
-  pub apply_on : (e : Effect) (m : Mem) → GoesOn P e → OnNext P (apply e m)
-  apply_on (Goes next) m p = p
-  apply_on (Loads a n next) m p = on_if (may m a n Read) _ _ (p _) tt
-  apply_on (Stores a n v next) m p = on_if (may m a n Write) _ _ p tt
-  apply_on (Reserves a n next) m p = on_if (a % n == 0) _ _ (on_if (may m a n Read) _ _ (p _) tt) tt
-  apply_on (Conditional a n v reserved next) m p = on_if (a % n == 0) _ _ (on_if (may m a n Write) _ _ p tt) tt
-  apply_on (Updates a n new next) m p = on_if (a % n == 0) _ _ (on_if (may m a n Read && may m a n Write) _ _ (p _) tt) tt
-  apply_on (Calls next) m p = calls_on next m p
-  apply_on Breaks m p = tt
+  received_on : (input : List ℕ) (m : Mem) (a n : ℕ) (next : ℕ → Hart) → ((v : ℕ) → P (next v)) → OnNext P (received input m a n next)
+  received_on [] m a n next p = p _
+  received_on (b ∷ rest) m a n next p = kept.takes (next (low_bytes n b)) rest (p _)
+
+  loaded_on : (v : Device) (m : Mem) (a n : ℕ) (next : ℕ → Hart) → ((v : ℕ) → P (next v)) → OnNext P (loaded v m a n next)
+  loaded_on Plain m a n next p = tt
+  loaded_on Serial m a n next p = on_if (is_latched m a) _ _ (p _) (received_on (next 0).input m a n next p)
+  loaded_on (Constant v) m a n next p = p _
+  loaded_on Power m a n next p = p _
+
+  sent_on : (t : Bool) (next : Hart) (v : ℕ) → P next → P (if t then next else sent next v)
+  sent_on true next v p = p
+  sent_on false next v p = kept.writes next (v % 256 ∷ []) p
+
+  stored_on : (device : Device) (m : Mem) (a n v : ℕ) (next : Hart) → P next → OnNext P (stored device m a n v next)
+  stored_on Plain m a n v next p = tt
+  stored_on Serial m a n v next p = sent_on (is_latched m a) next v p
+  stored_on (Constant c) m a n v next p = p
+  stored_on Power m a n v next p =
+      on_if (low_bytes n v % 2 ^ 16 == 0x5555) _ _ tt
+      (on_if (low_bytes n v % 2 ^ 16 == 0x3333) _ _ tt p)
+
+  pub next_keeps : (d : ℕ → Device) (e : Effect) (m : Mem) → GoesOn P e → OnNext P (apply_on d e m)
+  next_keeps d (Goes next) m p = p
+  next_keeps d (Loads a n next) m p = on_if (may m a n Read) _ _ (p _) (loaded_on (d a) m a n next p)
+  next_keeps d (Stores a n v next) m p = on_if (may m a n Write) _ _ p (stored_on (d a) m a n v next p)
+  next_keeps d (Reserves a n next) m p = on_if (a % n == 0) _ _ (on_if (may m a n Read) _ _ (p _) tt) tt
+  next_keeps d (Conditional a n v reserved next) m p = on_if (a % n == 0) _ _ (on_if (may m a n Write) _ _ p tt) tt
+  next_keeps d (Updates a n new next) m p = on_if (a % n == 0) _ _ (on_if (may m a n Read && may m a n Write) _ _ (p _) tt) tt
+  next_keeps d (Calls next) m p = calls_on next m p
+  next_keeps d Breaks m p = tt

@@ -7,12 +7,13 @@ use Rattle.std.proofs.lemmas.Bool.{eqb-true}
 use Rattle.rv_isa.specs.declared.instruction.Inst.{Inst}
 use Rattle.rv_isa_laws.specs.Memory.{Mem, Right, Execute, may}
 use Rattle.rv_isa_laws.specs.Hart.{Hart, Outcome, Limit, stop}
-use Rattle.rv_isa_laws.specs.Effect.{Effect, Goes, Loads, Stores, Reserves, Conditional, Updates, Calls, Breaks, Next, On, Over, apply, follow}
+use Rattle.rv_isa_laws.specs.Effect.{Effect, Goes, Loads, Stores, Reserves, Conditional, Updates, Calls, Breaks, Next, On, Over, follow}
 use Rattle.rv_isa_laws.specs.Meaning.{effect}
 use Rattle.rv_isa_laws.specs.Kept.{GoesOn, Kept, InRange}
 use Rattle.rv_isa_laws.proofs.EffectLawsLemmas.{effect_keeps}
 use Rattle.rv_isa_laws.specs.Reader.{Reader}
-use Rattle.rv_isa_laws.specs.Run.{NoRight, Got, spelled, length_at, fetch, step, run, done}
+use Rattle.rv_isa_laws.specs.Run.{NoRight, Got, spelled, length_at, fetch}
+use Rattle.rv_board_laws.specs.Device.{Device, apply_on, done_on, step_on, run_on}
 use Rattle.rv_source_laws.specs.Lines.{Line}
 use Rattle.rv_chain_laws.specs.Realizes.{StandsIn}
 use Rattle.rv_chain_laws.specs.Walks.{Walked, once, more, then_walk, walk}
@@ -75,7 +76,7 @@ follow_same : (x : Next) (g h : Hart) (go : Hart → Mem → Outcome) → g.cons
 follow_same (On k m) g h go e = refl
 follow_same (Over f) g h go e = ap (λ c. record { console = c; «end» = f }) e
 
-module _ {Spells StandsFor : ℕ → Inst → Type 0} (reader : Reader Spells StandsFor) (has : ℕ → Right → Bool) (first : Mem) (rights : (a : ℕ) → a < 2 ^ 64 → (right : Right) → first.has a right ≡ has a right) where
+module _ {Spells StandsFor : ℕ → Inst → Type 0} (reader : Reader Spells StandsFor) (has : ℕ → Right → Bool) (first : Mem) (rights : (a : ℕ) → a < 2 ^ 64 → first.has a Execute ≡ has a Execute) where
   line_steady : (l : Line) (h : Hart) → StandsIn reader first l → IsEven h → GoesOn (Steady h) (effect l.instruction l.bytes h)
   line_steady l h stands e =
       both_goes (Kept h) IsEven (Steady h) (λ g k even. record { console = k.console; pc = k.pc; even = even; whole = k.count; inside = k.below }) (effect l.instruction l.bytes h)
@@ -101,30 +102,30 @@ module _ {Spells StandsFor : ℕ → Inst → Type 0} (reader : Reader Spells St
   walk_steady (k ∷ ls) l h stand e =
       steady_then (effect l.instruction l.bytes h) k.address (walk k ls) h (line_steady l h stand.0 e) (λ g even. walk_steady ls k g stand.1 even)
 
-  module _ (m : Mem) (text : Text has first m) where
-    line_step : (l : Line) (h : Hart) → StandsIn reader first l → h.pc ≡ l.address → step reader h m ≡ apply (effect l.instruction l.bytes h) m
+  module _ (d : ℕ → Device) (m : Mem) (text : Text has first m) where
+    line_step : (l : Line) (h : Hart) → StandsIn reader first l → h.pc ≡ l.address → step_on d reader h m ≡ apply_on d (effect l.instruction l.bytes h) m
     line_step l h stands e =
-        ap (λ a. done (fetch reader m a) h m) e ∙ ap (λ f. done f h m) (fetched reader has first rights m text l.address (Got l.instruction l.bytes) (λ e. cc) stands.0)
+        ap (λ a. done_on d (fetch reader m a) h m) e ∙ ap (λ f. done_on d f h m) (fetched reader has first rights m text l.address (Got l.instruction l.bytes) (λ e. cc) stands.0)
 
     -- the machine runs the lines and comes to the effect of the last
     abbrev Runs : Walked → Hart → Type 0
-    Runs w h = (n : ℕ) → run reader (w.count + n) h m ≡ follow (apply w.effect m) h (run reader n)
+    Runs w h = (n : ℕ) → run_on d reader (w.count + n) h m ≡ follow (apply_on d w.effect m) h (run_on d reader n)
 
-    once_runs : (e : Effect) (h : Hart) → step reader h m ≡ apply e m → Runs (once e) h
+    once_runs : (e : Effect) (h : Hart) → step_on d reader h m ≡ apply_on d e m → Runs (once e) h
     once_runs e h s n =
         let one : 1 + n ≡ suc n = omega arith in
-        ap (λ k. run reader k h m) one ∙ ap (λ x. follow x h (run reader n)) s
+        ap (λ k. run_on d reader k h m) one ∙ ap (λ x. follow x h (run_on d reader n)) s
 
-    goes_runs : (t : Bool) (g h : Hart) (go : Hart → Walked) → step reader h m ≡ On g m → g.console ≡ h.console → (t ≡ true → Runs (go g) g) → Runs (if t then more (go g) else once (Goes g)) h
+    goes_runs : (t : Bool) (g h : Hart) (go : Hart → Walked) → step_on d reader h m ≡ On g m → g.console ≡ h.console → (t ≡ true → Runs (go g) g) → Runs (if t then more (go g) else once (Goes g)) h
     goes_runs true g h go s e rest n =
         let one : suc (go g).count + n ≡ suc ((go g).count + n) = omega arith in
-        ap (λ k. run reader k h m) one
-        ∙ ap (λ x. follow x h (run reader ((go g).count + n))) s
+        ap (λ k. run_on d reader k h m) one
+        ∙ ap (λ x. follow x h (run_on d reader ((go g).count + n))) s
         ∙ rest refl n
-        ∙ follow_same (apply (go g).effect m) g h (run reader n) e
+        ∙ follow_same (apply_on d (go g).effect m) g h (run_on d reader n) e
     goes_runs false g h go s e rest n = once_runs (Goes g) h s n
 
-    then_runs : (e : Effect) (next : ℕ) (go : Hart → Walked) (h : Hart) → step reader h m ≡ apply e m → GoesOn (Steady h) e → ((g : Hart) → g.pc ≡ next → IsEven g → Runs (go g) g) → Runs (then_walk e next go) h
+    then_runs : (e : Effect) (next : ℕ) (go : Hart → Walked) (h : Hart) → step_on d reader h m ≡ apply_on d e m → GoesOn (Steady h) e → ((g : Hart) → g.pc ≡ next → IsEven g → Runs (go g) g) → Runs (then_walk e next go) h
     then_runs (Goes g) next go h s steady rest n = goes_runs (g.pc == next) g h go s steady.console (λ t. rest g (eqb-true g.pc next t) steady.even) n
     then_runs (Loads a k f) next go h s steady rest n = once_runs (Loads a k f) h s n
     then_runs (Stores a k v f) next go h s steady rest n = once_runs (Stores a k v f) h s n
@@ -142,19 +143,19 @@ module _ {Spells StandsFor : ℕ → Inst → Type 0} (reader : Reader Spells St
 
     -- with fewer instructions left than lines to run, the limit is met among them
     abbrev Limits : Walked → Hart → Type 0
-    Limits w h = (n : ℕ) → n < w.count → run reader n h m ≡ stop h Limit
+    Limits w h = (n : ℕ) → n < w.count → run_on d reader n h m ≡ stop h Limit
 
     once_limits : (e : Effect) (h : Hart) → Limits (once e) h
     once_limits e h zero below = refl
     once_limits e h (suc n) below = absurd (omega arith)
 
-    goes_limits : (t : Bool) (g h : Hart) (go : Hart → Walked) → step reader h m ≡ On g m → g.console ≡ h.console → (t ≡ true → Limits (go g) g) → Limits (if t then more (go g) else once (Goes g)) h
+    goes_limits : (t : Bool) (g h : Hart) (go : Hart → Walked) → step_on d reader h m ≡ On g m → g.console ≡ h.console → (t ≡ true → Limits (go g) g) → Limits (if t then more (go g) else once (Goes g)) h
     goes_limits t g h go s e rest zero below = refl
     goes_limits true g h go s e rest (suc n) below =
-        ap (λ x. follow x h (run reader n)) s ∙ rest refl n (omega arith) ∙ ap (λ c. record { console = c; «end» = Limit }) e
+        ap (λ x. follow x h (run_on d reader n)) s ∙ rest refl n (omega arith) ∙ ap (λ c. record { console = c; «end» = Limit }) e
     goes_limits false g h go s e rest (suc n) below = absurd (omega arith)
 
-    then_limits : (e : Effect) (next : ℕ) (go : Hart → Walked) (h : Hart) → step reader h m ≡ apply e m → GoesOn (Steady h) e → ((g : Hart) → g.pc ≡ next → IsEven g → Limits (go g) g) → Limits (then_walk e next go) h
+    then_limits : (e : Effect) (next : ℕ) (go : Hart → Walked) (h : Hart) → step_on d reader h m ≡ apply_on d e m → GoesOn (Steady h) e → ((g : Hart) → g.pc ≡ next → IsEven g → Limits (go g) g) → Limits (then_walk e next go) h
     then_limits (Goes g) next go h s steady rest = goes_limits (g.pc == next) g h go s steady.console (λ t. rest g (eqb-true g.pc next t) steady.even)
     then_limits (Loads a k f) next go h s steady rest = once_limits (Loads a k f) h
     then_limits (Stores a k v f) next go h s steady rest = once_limits (Stores a k v f) h

@@ -19,4 +19,4 @@ mod listing;
 pub use checking::check_files;
 pub use explaining::explain;
 pub use formats::finding_value;
-pub use listing::list;
+pub use listing::{ListStyle, list};

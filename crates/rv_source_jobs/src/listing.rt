@@ -1,6 +1,7 @@
 //! Sources with what they become: each line with its address and its bytes.
 
 use rv_chain::{GroundOptions, build_on};
+use rv_debug_sources::plain_source;
 use rv_image::Image;
 use rv_list::{ROWS, Source, SourceLines};
 use rv_map::Map;
@@ -9,32 +10,65 @@ use rv_system::{
 };
 use std::alloc::{AllocError, Global};
 
-/// Builds sources and prints their lines, with all bytes of a line or the first rows of them; the exit status.
+/// How sources are listed.
+#[derive(Clone, Copy, Drop)]
+pub struct ListStyle {
+    /// All bytes of a line, and not the first rows alone.
+    pub all: bool,
+    /// Sources may have what only debug sections have, as GCC's with `-g`: the lines of C stand in them as `.loc`.
+    pub debug: bool,
+}
+
+/// Builds sources and prints their lines; the exit status.
 #[inline(never)]
 pub fn list<S: System>(
     system: &mut S,
     names: &[&str],
     options: GroundOptions,
-    all: bool,
+    style: ListStyle,
 ) -> Result<u8, JobError> {
     let read = files_bytes(system, names)?;
-    print_lines(system, names, read.as_slice(), options, all)
+    let alloc: Global = system.alloc();
+    let texts = borrowed(alloc, read.as_slice())?;
+    let plain = plain_sources(alloc, texts.as_slice(), style.debug)?;
+    let built = built_sources(alloc, texts.as_slice(), plain.as_slice())?;
+    let (map, image) = program(alloc, names, built.as_slice(), options)?;
+    let sources = named(alloc, names, texts.as_slice())?;
+    let rows = if style.all { usize::MAX } else { ROWS };
+    print_sources(system, sources.as_slice(), &map, &image, rows)
 }
 
-/// Builds sources that were read and prints their lines; the exit status.
-fn print_lines<S: System>(
-    system: &mut S,
-    names: &[&str],
-    read: &[Vec<u8>],
-    options: GroundOptions,
-    all: bool,
-) -> Result<u8, JobError> {
-    let alloc: Global = system.alloc();
-    let texts = borrowed(alloc, read)?;
-    let (map, image) = program(alloc, names, texts.as_slice(), options)?;
-    let sources = named(alloc, names, texts.as_slice())?;
-    let rows = if all { usize::MAX } else { ROWS };
-    print_sources(system, sources.as_slice(), &map, &image, rows)
+/// Sources without what only debug sections have; none of one that has nothing of it, or is taken as it is.
+fn plain_sources(
+    alloc: Global,
+    texts: &[&[u8]],
+    debug: bool,
+) -> Result<Vec<Option<Vec<u8>>>, AllocError> {
+    let mut plain = Vec::new(alloc);
+    for text in texts {
+        plain.push(if debug {
+            plain_source(alloc, text)?
+        } else {
+            None
+        })?;
+    }
+    Ok(plain)
+}
+
+/// What is built of sources, in which lines have the same numbers.
+fn built_sources<'t>(
+    alloc: Global,
+    texts: &[&'t [u8]],
+    plain: &'t [Option<Vec<u8>>],
+) -> Result<Vec<&'t [u8]>, AllocError> {
+    let mut built: Vec<&'t [u8]> = Vec::new(alloc);
+    for (text, plain) in texts.iter().zip(plain) {
+        built.push(match plain {
+            Some(plain) => plain.as_slice(),
+            None => text,
+        })?;
+    }
+    Ok(built)
 }
 
 /// Prints the lines of sources, with so many rows a line; the exit status.

@@ -7,7 +7,7 @@ use Rattle.rv_machine.proofs.KnownLemmas.{appends_kept}
 use Rattle.rv_board_laws.specs.Virt.{virt}
 use Rattle.rv_board.proofs.AnswersLemmas.{asked_as, load_answers, store_answers, none_answers}
 use Rattle.rv_board.proofs.DevicesLemmas.{nothing_read}
-use Rattle.rv_machine.proofs.AskingLemmas.{some_reader}
+use Rattle.rv_board_laws.proofs.PlatformLemmas.{some_reader}
 use Rattle.rv_board.proofs.answering.ask_device.Goals as goal
 
 pub answer_load-requires : goal.answer_load-requires

@@ -13,7 +13,7 @@ use Rattle.rv_machine.proofs.KnownLemmas.{has_read_none, has_read_more, appends_
 use Rattle.rv_board.specs.declared.answering.Answer.{Answer}
 use Rattle.rv_board.specs.declared.answering.Answer.TheVariants.{Went, Ended, Refused}
 use Rattle.rv_board.proofs.AnswersLemmas.{answer_as, failed_writes_none}
-use Rattle.rv_machine.proofs.AskingLemmas.{some_reader}
+use Rattle.rv_board_laws.proofs.PlatformLemmas.{some_reader}
 use Rattle.rv_board.proofs.RunningLemmas.{so_far_first, so_far_last, fails_from, never_from, limit_only, run_failed, run_to_limit, goes, refused, ended, answer_failed, went}
 use Rattle.rv_board.proofs.running.run_over.Goals as goal
 

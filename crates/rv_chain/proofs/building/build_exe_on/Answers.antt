@@ -20,7 +20,7 @@ returns-clause-builds c =
     let written = whole_written false (linked_of c.in_ok-linked.linked) from.whole exe from.shown c.in_ok-exe.ensures in
     record {
       map_bytes = text;
-      headline = headlined texts o.bounds.text o.relax o.gc from.whole exe laid readable from.program (c.linked_runs_agree.ensures o.bounds.text from.program.sources o.relax o.gc from.whole from.program.linked) written;
+      headline = headlined texts o.bounds.text o.relax o.gc from.whole exe laid readable from.program (c.linked_runs_agree.ensures o.bounds.text from.program.sources o.relax o.gc from.whole from.program.linked) (c.linked_runs_agree_on.ensures o.bounds.text from.program.sources o.relax o.gc from.whole from.program.linked) written;
       listed = listed_as texts o.bounds.text o.relax o.gc from.whole exe text laid readable from.program (c.listing_is_the_sources.ensures o.bounds.text from.program.sources o.relax o.gc from.whole from.program.linked) written refl;
       links = (from.links.0, from.links.1, built_of from.links.0 o.bounds o.relax o.gc from.whole exe text laid from.links.2 written refl);
     }

@@ -18,7 +18,7 @@ returns-clause-headline c =
     let exe = c.in_ok-built.built.exe.items in
     subst (λ text. TheHeadline texts o.bounds.text o.relax o.gc exe text) (sym (whole_map l from.whole c.in_ok-built.built.map.items from.shown c.in_ok-built.ensures.map))
     (headlined texts o.bounds.text o.relax o.gc from.whole exe (whole_laid_out c.in_ok-linked.linked true from.whole from.shown readable) readable from.program
-    (c.linked_runs_agree.ensures o.bounds.text from.program.sources o.relax o.gc from.whole from.program.linked) (whole_written true l from.whole exe from.shown c.in_ok-built.ensures.exe))
+    (c.linked_runs_agree.ensures o.bounds.text from.program.sources o.relax o.gc from.whole from.program.linked) (c.linked_runs_agree_on.ensures o.bounds.text from.program.sources o.relax o.gc from.whole from.program.linked) (whole_written true l from.whole exe from.shown c.in_ok-built.ensures.exe))
 
 pub returns-clause-listed : goal.returns-clause-listed
 returns-clause-listed c =

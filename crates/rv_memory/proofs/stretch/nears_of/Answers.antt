@@ -12,4 +12,5 @@ returns c = record {
   low_writes = c.near_of-2.ensures.quick;
   high_reads = c.near_of-3.ensures.quick;
   high_writes = c.near_of-4.ensures.quick;
+  below_reads = c.near_of-5.ensures.quick;
 }
