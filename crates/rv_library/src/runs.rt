@@ -28,7 +28,7 @@ use crate::streams::{Console, Input};
 use rv_fault::Fault;
 use rv_image::{FileFault, Image, load};
 use rv_machine::{
-    End, Event, Look, Outcome, RunFault, ShowFault, WatchFault, Watched, Watcher, run_counted,
+    End, Look, Outcome, RunFault, ShowFault, Step, WatchFault, Watched, Watcher, run_counted,
     run_watched,
 };
 use rv_memory::{Memory, Paged};
@@ -95,7 +95,7 @@ impl<M: Memory> Watcher<M> for Steps {
     }
 
     #[inline]
-    fn after(&mut self, _: &Event, _: &Watched<M>) -> Result<(), ShowFault> {
+    fn after(&mut self, _: &Step, _: &Watched<M>) -> Result<(), ShowFault> {
         self.count = self.count.saturating_add(1);
         Ok(())
     }

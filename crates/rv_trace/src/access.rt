@@ -7,7 +7,7 @@ ghost use Rattle.rv_trace.specs.Shown.{shown_bytes, stores};
 
 use rv_event_laws::Access as Told;
 use rv_isa::{AtomicOperation, Format, Inst, Reg};
-use rv_machine::Event;
+use rv_machine::Step;
 
 /// What an instruction does with memory.
 #[derive(Clone, Copy, Drop)]
@@ -28,14 +28,15 @@ pub(crate) struct Access {
 }
 
 impl Access {
-    /// The bytes that a line shows of an event: those written of what stores, else those read.
-    pub(crate) fn told_by(&self, event: &Event) -> Option<Told>
-        ensures { result ≡ shown_bytes self.now.kind event.now }
+    /// The bytes that a line shows of a step: those written of what stores, else those read.
+    #[inline]
+    pub(crate) fn told_by(&self, step: &Step) -> Option<Told>
+        ensures { result ≡ shown_bytes self.now.kind step.now }
     {
         if self.stores() {
-            event.stored
+            step.stored()
         } else {
-            event.read
+            step.read()
         }
     }
 

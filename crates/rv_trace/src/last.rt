@@ -12,7 +12,7 @@ use crate::moved::add_span;
 use crate::report::{Latest, Segments};
 use rv_counts::Totals;
 use rv_isa::Reg;
-use rv_machine::{Event, Look, ShowFault, Watched, Watcher};
+use rv_machine::{Look, ShowFault, Step, Watched, Watcher};
 use rv_memory::Memory;
 use serde_json::{Map, Value, put};
 use sha2::{Digest, Sha256};
@@ -54,10 +54,10 @@ impl<M: Memory> Watcher<M> for Last {
     }
 
     #[inline]
-    fn after(&mut self, event: &Event, machine: &Watched<M>) -> Result<(), ShowFault> {
-        self.totals = self.totals.with(event);
-        add_span(&mut self.console, machine.memory(), event.put);
-        self.latest.note(event, machine);
+    fn after(&mut self, step: &Step, machine: &Watched<M>) -> Result<(), ShowFault> {
+        self.totals.count(step, &step.fetched());
+        add_span(&mut self.console, machine.memory(), step.put());
+        self.latest.note(step, machine);
         Ok(())
     }
 }

@@ -47,6 +47,8 @@ pub(crate) struct Pattern {
 /// How an instruction loads or stores, and the offsets in the line of the digits of what it writes and accesses.
 #[derive(Clone, Copy, Drop)]
 pub(crate) struct Effects {
+    /// The register that the instruction sets; x0 where it sets none.
+    pub register: Reg,
     /// Where the value of the register stands.
     pub value: usize,
     /// Where the line ends, but for the value in decimal, of which nothing is accessed.
@@ -183,6 +185,7 @@ fn put_effects(text: &mut Vec<u8>, start: usize, inst: Inst) -> Result<Effects, 
     let address = text.len().saturating_add(1).saturating_sub(start);
     let stored = put_accessed(text, &access)?.saturating_sub(start);
     Ok(Effects {
+        register: written.unwrap_or(Reg::ZERO),
         value,
         no_access: last.saturating_sub(start),
         access,

@@ -17,7 +17,7 @@ use crate::trace::put_bytes;
 use rv_event_laws::Setting;
 use rv_image::{STACK_BYTES, STACK_START};
 use rv_isa::{Format, Inst, Reg, mnemonic};
-use rv_machine::{Event, Fetched, Look, ShowFault, Span, Watched, Watcher};
+use rv_machine::{Fetched, Look, ShowFault, Span, Step, Watched, Watcher, destination_of};
 use rv_map::put_hexadecimal;
 use rv_memory::Memory;
 use std::alloc::{AllocError, Global};
@@ -103,11 +103,11 @@ impl<'a, L: Write> PlainTrace<'a, L> {
     }
 
     /// Adds the line of an instruction that was executed.
-    fn put_event<M: Memory>(
+    fn put_step<M: Memory>(
         &mut self,
         opened: &Opened,
-        event: &Event,
-        memory: &M,
+        step: &Step,
+        machine: &Watched<M>,
     ) -> Result<(), AllocError> {
         let start = self.kept.len();
         put_code(&mut self.kept, self.known.places, opened)?;
@@ -115,8 +115,8 @@ impl<'a, L: Write> PlainTrace<'a, L> {
             &mut self.kept,
             start,
             &self.known,
-            (opened.inst, event),
-            memory,
+            (opened.inst, step),
+            machine,
         )?;
         put_source(&mut self.kept, start, self.known.places, opened.pc)
     }
@@ -132,7 +132,7 @@ impl<M: Memory, L: Write> Watcher<M> for PlainTrace<'_, L> {
         if self.count < self.first {
             return Ok(());
         }
-        let Fetched::Got(inst, _) = look.fetched else {
+        let Fetched::Got(inst, _) = look.fetched() else {
             return Ok(());
         };
         let is_call = matches!(&inst, Inst::Ecall);
@@ -144,16 +144,16 @@ impl<M: Memory, L: Write> Watcher<M> for PlainTrace<'_, L> {
     }
 
     #[inline]
-    fn after(&mut self, event: &Event, machine: &Watched<M>) -> Result<(), ShowFault> {
+    fn after(&mut self, step: &Step, machine: &Watched<M>) -> Result<(), ShowFault> {
         // the line of an instruction that ended the run is the last
-        if event.end.is_some() {
+        if step.end().is_some() {
             return Ok(());
         }
         let Some(opened) = self.open else {
             return Ok(());
         };
         self.open = None;
-        self.put_event(&opened, event, machine.memory())?;
+        self.put_step(&opened, step, machine)?;
         if self.kept.len() >= KEPT {
             return self.write_kept();
         }
@@ -206,24 +206,24 @@ fn put_effects<M: Memory>(
     text: &mut Vec<u8>,
     start: usize,
     known: &Known<'_>,
-    executed: (Inst, &Event),
-    memory: &M,
+    executed: (Inst, &Step),
+    machine: &Watched<M>,
 ) -> Result<(), AllocError> {
-    let (inst, event) = executed;
+    let (inst, step) = executed;
     let is_part = sets_part(&inst);
     let access = access_of(inst);
     let mut width = BEFORE_EFFECT;
-    if let Some(setting) = event.set {
+    if let Some(setting) = step.set_in(destination_of(inst), machine.hart()) {
         fill_column(text, start, width)?;
         put_set(text, known, is_part, &setting)?;
         width = 0;
     }
     if let Some(access) = &access {
-        put_access(text, (start, width), known, access, event)?;
+        put_access(text, (start, width), known, access, step)?;
     }
-    if event.taken.count > 0 {
+    if step.taken().count > 0 {
         fill_column(text, start, width)?;
-        return put_taken(text, known, event.taken, memory);
+        return put_taken(text, known, step.taken(), machine.memory());
     }
     Ok(())
 }
@@ -265,9 +265,9 @@ fn put_access(
     column: (usize, usize),
     known: &Known<'_>,
     access: &Access,
-    event: &Event,
+    step: &Step,
 ) -> Result<(), AllocError> {
-    let Some(told) = access.told_by(event) else {
+    let Some(told) = access.told_by(step) else {
         return Ok(());
     };
     fill_column(text, column.0, column.1)?;

@@ -7,8 +7,8 @@ use crate::columns::put;
 use crate::parts::Part::{Decimal, Fixed, Symbol, Text};
 use crate::parts::put_parts;
 use crate::places::Places;
-use rv_isa::{Inst, Reg};
-use rv_machine::{Event, Fetched, Watched};
+use rv_isa::Reg;
+use rv_machine::{Step, Watched};
 use rv_memory::Memory;
 use std::alloc::AllocError;
 
@@ -16,6 +16,8 @@ use std::alloc::AllocError;
 const NO_CALL: u64 = 38;
 /// The answer where a0 names no file, as its negative.
 const NO_FILE: u64 = 9;
+/// The bits of `ecall` (ISA, 2.8).
+const ECALL: u32 = 0x73;
 /// How many different refused calls are named.
 const NAMED: usize = 8;
 
@@ -133,17 +135,17 @@ impl Refusals {
 
     /// Notes what a step did, where it is a call that was refused.
     #[inline]
-    pub(crate) fn note<M: Memory>(&mut self, event: &Event, machine: &Watched<M>) {
-        if !is_call(event.fetched) {
+    pub(crate) fn note<M: Memory>(&mut self, step: &Step, machine: &Watched<M>) {
+        if step.bits() != Some(ECALL) {
             return;
         }
-        let Some(setting) = event.set else {
+        let Some(setting) = step.set_in(Reg::from_low_bits(10), machine.hart()) else {
             return;
         };
         let answer = setting.value.wrapping_neg();
         if answer == NO_CALL || answer == NO_FILE {
             self.add(Refusal {
-                pc: event.pc,
+                pc: step.pc(),
                 number: machine.register(Reg::from_low_bits(17)),
                 file: if answer == NO_FILE {
                     Some(self.a0)
@@ -196,14 +198,5 @@ impl Refusals {
             text,
             &[Text("  and "), Decimal(self.others), Text(" others\n")],
         )
-    }
-}
-
-/// Whether what was fetched is a call.
-#[inline]
-fn is_call(fetched: Fetched) -> bool {
-    match fetched {
-        Fetched::Got(inst, _) => matches!(inst, Inst::Ecall),
-        _ => false,
     }
 }

@@ -15,7 +15,7 @@ use crate::refusals::Refusals;
 use rv_image::{Image, STACK_BYTES, STACK_START};
 use rv_inspect::put_shortest;
 use rv_isa::{Format, Inst, Reg};
-use rv_machine::{End, Event, Fetched, Look, ShowFault, Watched, Watcher, bits_at, spelled};
+use rv_machine::{End, Fetched, Look, ShowFault, Step, Watched, Watcher, bits_at, spelled};
 use rv_memory::Memory;
 use std::alloc::{AllocError, Global};
 
@@ -47,11 +47,11 @@ impl Latest {
 
     /// Notes the address of an instruction, and a call that is refused.
     #[inline]
-    pub(crate) fn note<M: Memory>(&mut self, event: &Event, machine: &Watched<M>)
+    pub(crate) fn note<M: Memory>(&mut self, step: &Step, machine: &Watched<M>)
         ensures { self.new.count ≡ (self.old.count + 1) % 2 ^ 64 }
     {
-        self.refusals.note(event, machine);
-        self.addresses[(self.count % 16) as usize] = event.pc;
+        self.refusals.note(step, machine);
+        self.addresses[(self.count % 16) as usize] = step.pc();
         self.count = self.count.wrapping_add(1);
     }
 
@@ -90,8 +90,8 @@ impl<M: Memory> Watcher<M> for Latest {
     }
 
     #[inline]
-    fn after(&mut self, event: &Event, machine: &Watched<M>) -> Result<(), ShowFault> {
-        self.note(event, machine);
+    fn after(&mut self, step: &Step, machine: &Watched<M>) -> Result<(), ShowFault> {
+        self.note(step, machine);
         Ok(())
     }
 }

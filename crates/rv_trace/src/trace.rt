@@ -16,9 +16,10 @@ use crate::parts::Part::{Fixed, Text};
 use crate::parts::put_parts;
 use crate::pattern::{BEFORE_SOURCE, Effects, Patterns};
 use crate::places::Places;
-use crate::visited::{VisitedInstruction, VisitedInstructions};
+use crate::visited::VisitedInstructions;
+use rv_event_laws::Setting;
 use rv_image::Image;
-use rv_machine::{Event, Fetched, Look, ShowFault, Span, Watched, Watcher};
+use rv_machine::{Look, ShowFault, Span, Step, Watched, Watcher};
 use rv_memory::Memory;
 use std::alloc::{AllocError, Global};
 use std::io::Write;
@@ -111,12 +112,12 @@ impl<'a, L: Write> Trace<'a, L> {
         put_rest(&mut self.kept, start, self.patterns.rest(pattern))
     }
 
-    /// Adds the line of an instruction that was executed: the text of its event.
-    fn put_event<M: Memory>(
+    /// Adds the line of an instruction that was executed: the text of its step.
+    fn put_step<M: Memory>(
         &mut self,
         visited: usize,
-        event: &Event,
-        memory: &M,
+        step: &Step,
+        machine: &Watched<M>,
     ) -> Result<(), AllocError> {
         let Some(pattern) = self.patterns.get(visited) else {
             return Ok(());
@@ -127,38 +128,46 @@ impl<'a, L: Write> Trace<'a, L> {
         let Some(line) = self.kept.as_mut_slice().get_mut(start..) else {
             return Ok(());
         };
-        let has_decimal = fill_decimal(line, effects, event);
-        let is_full = fill(line, effects, event);
-        if is_full && has_decimal && event.taken.count == 0 {
+        let set = step.set_in(effects.register, machine.hart());
+        let has_decimal = fill_decimal(line, effects, set);
+        let is_full = fill(line, effects, set, step);
+        if is_full && has_decimal && step.taken().count == 0 {
             return Ok(());
         }
-        self.kept.truncate(start.saturating_add(effects.no_access));
-        put_told(&mut self.kept, start, effects.no_access, event, memory)?;
+        let offset = effects.no_access;
+        self.kept.truncate(start.saturating_add(offset));
+        put_told(
+            &mut self.kept,
+            (start, offset),
+            set,
+            step.taken(),
+            machine.memory(),
+        )?;
         put_rest(&mut self.kept, start, self.patterns.rest(pattern))
     }
 }
 
 /// Writes into a line the value of its register in decimal, if it is small; false where that has no room, at the line's end.
 #[inline]
-fn fill_decimal(line: &mut [u8], effects: &Effects, event: &Event) -> bool {
-    let Some(setting) = event.set else {
+fn fill_decimal(line: &mut [u8], effects: &Effects, set: Option<Setting>) -> bool {
+    let Some(setting) = set else {
         return true;
     };
     set_small(line, effects.value.saturating_add(16), setting.value)
 }
 
-/// Writes into a line what its event tells; whether that fills the line. It does not where nothing was accessed, as by an `sc`
+/// Writes into a line what its step tells; whether that fills the line. It does not where nothing was accessed, as by an `sc`
 /// that failed.
-fn fill(line: &mut [u8], effects: &Effects, event: &Event) -> bool
-    ensures { result ≡ is_full effects.now.access event.now }
+fn fill(line: &mut [u8], effects: &Effects, set: Option<Setting>, step: &Step) -> bool
+    ensures { result ≡ is_full effects.now.access step.now }
 {
-    if let Some(setting) = event.set {
+    if let Some(setting) = set {
         set_fixed(line, effects.value, setting.value);
     }
     let Some(access) = &effects.access else {
         return true;
     };
-    let Some(told) = access.told_by(event) else {
+    let Some(told) = access.told_by(step) else {
         return false;
     };
     set_fixed(line, effects.address, told.address);
@@ -168,23 +177,23 @@ fn fill(line: &mut [u8], effects: &Effects, event: &Event) -> bool
     true
 }
 
-/// Adds what an event tells behind the value of its register, which ends in the line at an offset: the value in decimal, and
+/// Adds what a step tells behind the value of its register, which ends in the line at an offset: the value in decimal, and
 /// the input that a call took.
 fn put_told<M: Memory>(
     text: &mut Vec<u8>,
-    start: usize,
-    offset: usize,
-    event: &Event,
+    place: (usize, usize),
+    set: Option<Setting>,
+    taken: Span,
     memory: &M,
 ) -> Result<(), AllocError> {
-    if let Some(setting) = event.set {
+    if let Some(setting) = set {
         put_small(text, setting.value)?;
     }
-    if event.taken.count == 0 {
+    if taken.count == 0 {
         return Ok(());
     }
-    fill_column(text, start, offset.saturating_add(DECIMAL))?;
-    put_taken(text, event.taken, memory)
+    fill_column(text, place.0, place.1.saturating_add(DECIMAL))?;
+    put_taken(text, taken, memory)
 }
 
 /// Adds where the input that a call took stands, and its bytes in their order.
@@ -243,30 +252,26 @@ impl<M: Memory, L: Write> Watcher<M> for Trace<'_, L> {
         if self.count.number() < self.first {
             return Ok(());
         }
-        let Fetched::Got(inst, _) = look.fetched else {
-            return Ok(());
-        };
         let Some(bits) = look.bits else {
             return Ok(());
         };
-        let pc = look.pc;
-        let index = self
-            .instructions
-            .find(VisitedInstruction { pc, bits, inst })?;
-        self.begin(index)
+        match self.instructions.find(look.pc, bits)? {
+            Some(index) => self.begin(index),
+            None => Ok(()),
+        }
     }
 
     #[inline]
-    fn after(&mut self, event: &Event, machine: &Watched<M>) -> Result<(), ShowFault> {
+    fn after(&mut self, step: &Step, machine: &Watched<M>) -> Result<(), ShowFault> {
         // the line of an instruction that ended the run is the last
-        if event.end.is_some() {
+        if step.end().is_some() {
             return Ok(());
         }
         let Some(visited) = self.open else {
             return Ok(());
         };
         self.open = None;
-        self.put_event(visited, event, machine.memory())?;
+        self.put_step(visited, step, machine)?;
         if self.kept.len() >= KEPT {
             return self.write_kept();
         }

@@ -5,6 +5,7 @@
 use rv_counts::CodeIndex;
 use rv_image::Image;
 use rv_isa::Inst;
+use rv_machine::{Fetched, spelled};
 use std::alloc::{AllocError, Global};
 
 /// An instruction at an address.
@@ -44,27 +45,30 @@ impl VisitedInstructions {
         self.instructions.as_slice()
     }
 
-    /// The index of an instruction, which is added where it is none of these.
+    /// The index of the instruction that these bits spell at an address, which is added where it is none of these; none where they
+    /// spell no instruction.
     #[inline]
-    pub(crate) fn find(&mut self, next: VisitedInstruction) -> Result<usize, AllocError> {
-        if let Some(index) = self.index.get(next.pc) {
+    pub(crate) fn find(&mut self, pc: u64, bits: u32) -> Result<Option<usize>, AllocError> {
+        if let Some(index) = self.index.get(pc) {
             if let Some(visited) = self.instructions.get(index) {
-                if visited.pc == next.pc && visited.bits == next.bits {
-                    return Ok(index);
+                if visited.pc == pc && visited.bits == bits {
+                    return Ok(Some(index));
                 }
             }
         }
-        self.add(next)
+        self.add(pc, bits)
     }
 
     /// Adds an instruction; its index.
     #[inline(never)]
-    fn add(&mut self, next: VisitedInstruction) -> Result<usize, AllocError> {
-        let VisitedInstruction { pc, bits, inst } = next;
+    fn add(&mut self, pc: u64, bits: u32) -> Result<Option<usize>, AllocError> {
+        let Fetched::Got(inst, _) = spelled(Some(bits)) else {
+            return Ok(None);
+        };
         let index = self.instructions.len();
         self.instructions
             .push(VisitedInstruction { pc, bits, inst })?;
         self.index.set(pc, index);
-        Ok(index)
+        Ok(Some(index))
     }
 }
