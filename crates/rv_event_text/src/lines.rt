@@ -8,7 +8,7 @@ ghost use Rattle.rv_event_laws.specs.Event.{Event};
 ghost use Rattle.rv_event_text.specs.Written.{HasLines};
 
 use crate::line::put_event;
-use rv_machine::{Event as Told, Look, ShowFault, Watched, Watcher};
+use rv_machine::{Look, ShowFault, Step, Watched, Watcher};
 use rv_memory::Memory;
 use std::alloc::Global;
 use std::io::Write;
@@ -83,8 +83,9 @@ impl<M: Memory, L: Write> Watcher<M> for EventLines<L> {
     }
 
     #[inline]
-    fn after(&mut self, event: &Told, machine: &Watched<M>) -> Result<(), ShowFault> {
-        put_event(&mut self.kept, event, machine.memory())?;
+    fn after(&mut self, step: &Step, machine: &Watched<M>) -> Result<(), ShowFault> {
+        let event = step.event(machine.hart());
+        put_event(&mut self.kept, &event, machine.memory())?;
         self.write_many()
     }
 }

@@ -2,7 +2,7 @@
 
 ghost use Rattle.std.specs.Prelude.{◌≡◌, ◌%◌, ◌^◌, length};
 
-use rv_machine::{Event, Look, ShowFault, Watched, Watcher};
+use rv_machine::{Look, ShowFault, Step, Watched, Watcher};
 use rv_memory::Memory;
 
 /// How many instructions a run has begun, modulo 2^64.
@@ -20,7 +20,7 @@ impl<M: Memory> Watcher<M> for Steps {
     }
 
     #[inline]
-    fn after(&mut self, _: &Event, _: &Watched<M>) -> Result<(), ShowFault> {
+    fn after(&mut self, _: &Step, _: &Watched<M>) -> Result<(), ShowFault> {
         self.count = self.count.wrapping_add(1);
         Ok(())
     }
