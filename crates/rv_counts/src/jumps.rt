@@ -65,7 +65,7 @@ impl Turn {
 }
 
 /// That of an instruction.
-#[inline(always)]
+#[inline]
 fn turn_of(inst: Inst, registers: &ToldRegisters) -> Turn
     ensures { let f = format_of inst in result
         ≡ record {
@@ -96,7 +96,7 @@ fn turn_of(inst: Inst, registers: &ToldRegisters) -> Turn
 }
 
 /// That of what was fetched.
-#[inline(always)]
+#[inline]
 pub(crate) fn turn_at(fetched: &Fetched, registers: &ToldRegisters) -> Turn
     ensures { let f = fetched_of fetched.now in result
         ≡ record {
