@@ -251,10 +251,14 @@ def steps(words, limit):
     return host_instructions(RV, "run", "--limit", limit, *words, good=125)
 
 
+# What is not written yet is loaded in another way from the first step on, and code far apart is a long file to read.
+ALONE = ("stack", "code in turns")
+
+
 def beginning(segment, place, form):
-    """The programs that begin alike: those of a segment, and the whole programs at a place. Of the stack each begins by
-    itself, since what nobody has written is slower to load there."""
-    if segment == "stack":
+    """The programs that begin alike: those of a segment, and the whole programs at a place. Those in ALONE begin each by
+    itself."""
+    if segment in ALONE:
         return segment, place, form
     return (segment, place) if segment == WHOLE else segment
 
@@ -264,7 +268,7 @@ def measured(folder):
     steps of programs that begin alike are counted once."""
     programs = {key: (it,) for of in (code_programs, data_programs, turn_programs) for key, it in of(folder)}
     programs |= dict(origin_programs(folder))
-    is_first = lambda segment, place, _: place == MIDDLE or segment in (WHOLE, "stack")
+    is_first = lambda segment, place, _: place == MIDDLE or segment in (WHOLE, *ALONE)
     firsts = {beginning(*key): it for key, it in reversed(programs.items()) if is_first(*key)}
     starts = dict(zip(firsts, at_once(lambda it: steps(it, FROM), firsts.values())))
     counts = dict(zip(programs, at_once(lambda it: steps(it, TO), programs.values())))

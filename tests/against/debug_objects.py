@@ -1,18 +1,20 @@
-"""Compares debug sections in objects of `rv as -g` with those of GNU as, and what is loaded with `rv as`.
+"""Compares sections without `a` in objects of `rv as -g` with those of GNU as, and what is loaded with `rv as`.
 
 usage: compare.py debug_objects [COUNT]      (200 sources by default)
 
 GCC compiles with `-g` and the words that docs/manual/gcc.md names, for DWARF 5 and 4 in turn, at four levels: the
-programs of bench/ and examples/c, and then C that bench/drawn.py draws. Of each source it asks that
+programs of bench/ and examples/c, and then C that bench/drawn.py draws. Behind each source stand sections of other names,
+with values and differences of its names in all widths, and a name that nothing defines. Of each it asks that
 
-  sections     debug sections are those of GNU as, with the same bytes, alignment and no flag `a`
+  sections     sections without the flag `a` are those of GNU as, with the same bytes, type, flags and alignment
   relocations  theirs have the same offsets, kinds, symbols and addends
-  loaded       without debug sections and their relocations the object is that of `rv as` of the source
+  loaded       without these sections and their relocations the object is that of `rv as` of the source
   image        `rv ld` makes of both the same executable, where the source has a start
 
 A line for each that differs; the last line is 'N passed, M failed'. It needs riscv64-unknown-elf-gcc and its binutils.
 """
 
+import re
 import struct
 import subprocess
 import sys
@@ -31,6 +33,33 @@ WORDS += ["-fno-dwarf2-cfi-asm", "-S", "-x", "c", "-"]
 LEVELS = ("-O0", "-O1", "-O2", "-Os")
 VERSIONS = ("-gdwarf-5", "-gdwarf-4")
 ALLOC, NOBITS = 2, 8
+TYPES = (1, 7, NOBITS)
+# What GNU as writes of `.ident`, and sections of this assembler's own.
+OF_TOOLS = (".comment", ".rv.rows", ".rv.source")
+GLOBAL = re.compile(r"^\s*\.globl\s+([\w.$]+)$", re.M)
+# Sections without `a`, where FIRST and LAST are names of the source.
+OTHERS = """
+    .section .info,"",@progbits
+.Linfo:
+    .8byte FIRST, LAST + 8
+    .4byte FIRST, .Lmore - 4
+    .8byte LAST - FIRST
+    .4byte LAST - FIRST + 2
+    .2byte LAST - FIRST
+    .byte LAST - FIRST, 7
+    .8byte nothing_defines_this
+    .section .more-info
+    .4byte .Linfo, .
+.Lmore:
+    .section .some.notes,"",@note
+    .8byte LAST
+    .section .written,"w"
+    .4byte .Lmore, FIRST
+    .section .empty,"",@nobits
+    .zero 8
+    .section .info
+    .4byte .Lmore - .Linfo, 5
+"""
 
 
 def text_of_table(table, at):
@@ -65,17 +94,18 @@ class Object:
                     name, value = self.symbol(header[6], info >> 32)
                     yield at, info & 0xFFFFFFFF, name, value + addend
 
-    def debug_sections(self):
-        """Of each debug section its bytes, its alignment, whether it is loaded, and its relocations."""
+    def unloaded(self):
+        """Of each section without `a`, but for those of tools, its type and flags, its size and bytes, and its relocations."""
         for index, (name, header) in enumerate(zip(self.names, self.headers)):
-            if name.startswith(".debug_"):
-                loaded = bool(header[2] & ALLOC)
-                yield name, (self.bytes_of(header), max(header[8], 1), loaded), list(self.relocations(index))
+            if header[1] in TYPES and not header[2] & ALLOC and name not in OF_TOOLS:
+                # (M and S are flags that GNU as keeps)
+                held = header[1], header[2] & ~0x30, header[5], self.bytes_of(header), max(header[8], 1)
+                yield name, held, list(self.relocations(index))
 
     def loaded(self):
-        """Of each other section with a type, but for tables of names and symbols, its header's numbers and bytes."""
+        """Of each section with `a` its header's numbers, its bytes and its relocations."""
         for index, (name, header) in enumerate(zip(self.names, self.headers)):
-            if header[1] in (1, 7, 8) and not name.startswith((".debug_", ".rv.")):
+            if header[1] in TYPES and header[2] & ALLOC:
                 yield name, header[1:4], header[5], header[8], self.bytes_of(header), list(self.relocations(index))
 
 
@@ -95,7 +125,9 @@ def differences(folder, text, parent, words):
     made = subprocess.run(
         [f"{GNU}gcc", *WORDS, *words, f"-I{parent}", "-o", "-"], input=text.encode(), stdout=subprocess.PIPE, check=True
     )
-    (folder / "a.s").write_bytes(made.stdout)
+    names = GLOBAL.findall(made.stdout.decode())
+    others = OTHERS.replace("FIRST", names[0]).replace("LAST", names[-1])
+    (folder / "a.s").write_text(made.stdout.decode() + others)
     for tool in (
         (RV, "as", "-g", "-o", "ours.o", "a.s"),
         (RV, "as", "-o", "plain.o", "a.s"),
@@ -106,7 +138,7 @@ def differences(folder, text, parent, words):
             yield f"{tool[0]}: {done and done.stderr.decode().strip()}"
             return
     ours, theirs, plain = (Object(folder / f"{name}.o") for name in ("ours", "theirs", "plain"))
-    had, wanted = ({it[0]: it[1:] for it in of.debug_sections()} for of in (ours, theirs))
+    had, wanted = ({it[0]: it[1:] for it in of.unloaded()} for of in (ours, theirs))
     for name in sorted(had.keys() | wanted.keys()):
         if name not in had or name not in wanted or had[name][0] != wanted[name][0]:
             yield f"section {name}"

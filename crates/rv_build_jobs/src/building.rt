@@ -10,6 +10,7 @@ use crate::defining::Definitions;
 use crate::files::{LinkFile, linked_files, object_files};
 use crate::linking::link_inputs;
 use crate::loading::{given_sources, is_elf};
+use crate::references::check_references;
 use crate::refusing::{is_explained, program_image, refused_sources};
 use crate::settling::settled_inputs;
 use rv_chain::{Built, Fault, GroundOptions, assemble_object, build_exe_on, build_on};
@@ -262,6 +263,13 @@ fn build_for_debuggers<S: System>(
         described.as_slice(),
         lines.as_deref(),
         built,
+    )?;
+    check_references(
+        alloc,
+        names,
+        files.as_slice(),
+        objects.as_slice(),
+        addresses.as_slice(),
     )?;
     with_sections(system, exe, files.as_slice(), addresses.as_slice(), built)
 }

@@ -1,4 +1,4 @@
-//! Debug sections of objects in executables with names and lines for debuggers.
+//! Sections of objects that no program loads, as debug sections, in executables with names and lines for debuggers.
 //!
 //! What a compiler says of its source stands beside what the map says. An object that has the lines of its code gets no lines
 //! of the assembly that the compiler wrote.
@@ -6,7 +6,7 @@
 use rv_chain::{Built, Fault, GroundOptions};
 use rv_debug::Object;
 use rv_debug_sections::{
-    Carried, CarryFault, has_debug_sections, has_line_table, with_sections_of,
+    Carried, CarryFault, has_carried_sections, has_line_table, with_sections_of,
 };
 use rv_fault::LinkFault;
 use rv_link::{SymbolExtent, symbol_extents_on};
@@ -15,7 +15,7 @@ use rv_system::{JobError, System, fault_line};
 use std::alloc::{AllocError, Global};
 
 /// The addresses that a link gives the symbols of the objects of files with these names: by object and symbol; none where no
-/// file has a debug section.
+/// file has a section that stands behind the executable.
 pub(crate) fn addresses_of(
     alloc: Global,
     names: &[&str],
@@ -23,16 +23,16 @@ pub(crate) fn addresses_of(
     objects: &[Object<'_>],
     options: GroundOptions,
 ) -> Result<Vec<Vec<Option<u64>>>, JobError> {
-    if !has_any_debug_sections(files) {
+    if !has_any_carried_sections(files) {
         return Ok(Vec::new(alloc));
     }
     let extents = extents_of(alloc, names, objects, &[], options)?;
     Ok(all_addresses(alloc, extents.as_slice())?)
 }
 
-/// Whether one of these files has a debug section.
-pub(crate) fn has_any_debug_sections(files: &[&[u8]]) -> bool {
-    files.iter().any(|file| has_debug_sections(file))
+/// Whether one of these files has a section that stands behind the executable.
+pub(crate) fn has_any_carried_sections(files: &[&[u8]]) -> bool {
+    files.iter().any(|file| has_carried_sections(file))
 }
 
 /// Where a link puts the symbols of objects, whose files have these names, and how many bytes it leaves of each, by how many
@@ -108,7 +108,7 @@ fn is_among(skipped: &[bool], file: u64) -> bool {
 }
 
 /// The text of a map whose rows give the lines of what is built of files: none where it is its own. The symbols of files have
-/// these addresses, of which there are none where no file has a debug section.
+/// these addresses, of which there are none where no file has a section that stands behind the executable.
 pub(crate) fn lines_of(
     alloc: Global,
     map: &[u8],
@@ -121,7 +121,7 @@ pub(crate) fn lines_of(
     map_of_lines(alloc, map, files)
 }
 
-/// What was built of objects whose symbols have these addresses, with the debug sections of the objects; as it is where there
+/// What was built of objects whose symbols have these addresses, with the sections of the objects that no program loads; as it is where there
 /// are no addresses.
 pub(crate) fn with_sections<S: System>(
     system: &S,
@@ -142,7 +142,7 @@ pub(crate) fn with_sections<S: System>(
         }),
         Err(CarryFault::OutOfMemory) => Err(JobError::Memory),
         Err(fault) => Err(JobError::Line(format!(in alloc;
-            "{exe}: no debug sections of objects: {fault}"
+            "{exe}: no sections of objects that no program loads: {fault}"
         )?)),
     }
 }

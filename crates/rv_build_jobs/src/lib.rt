@@ -25,6 +25,7 @@ mod files;
 mod linking;
 mod loading;
 mod padding;
+mod references;
 mod refusing;
 mod rows;
 mod settling;

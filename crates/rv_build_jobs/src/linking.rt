@@ -6,6 +6,7 @@ use crate::debug_objects::objects_of_sources;
 use crate::debugging::{debugged_by_tables, file_objects, paths_of_objects};
 use crate::defining::Definitions;
 use crate::files::{LinkFile, linked_files};
+use crate::references::check_references;
 use crate::refusing::{Linked, refused_link};
 use crate::rows::warn_of_rows;
 use crate::settling::settle_files;
@@ -148,6 +149,13 @@ fn linked_debugged<S: System>(
         tabled.as_slice(),
         lines.as_deref(),
         built,
+    )?;
+    check_references(
+        alloc,
+        linked.names,
+        files,
+        objects.as_slice(),
+        addresses.as_slice(),
     )?;
     with_sections(system, exe, files, addresses.as_slice(), built)
 }

@@ -1,6 +1,6 @@
 //! The symbol tables of objects that were linked, and where the link put their symbols.
 
-use crate::carrying::{all_addresses, extents_of, has_any_debug_sections};
+use crate::carrying::{all_addresses, extents_of, has_any_carried_sections};
 use rv_chain::GroundOptions;
 use rv_debug::{Object, SymbolRecord, Tabled, symbol_sizes};
 use rv_debug_sections::symbol_records;
@@ -53,13 +53,13 @@ impl SymbolTables {
         Ok(tabled)
     }
 
-    /// The addresses of the symbols of these files; none where no file has a debug section.
+    /// The addresses of the symbols of these files; none where no file has a section that stands behind the executable.
     pub(crate) fn addresses(
         &self,
         alloc: Global,
         files: &[&[u8]],
     ) -> Result<Vec<Vec<Option<u64>>>, AllocError> {
-        if !has_any_debug_sections(files) {
+        if !has_any_carried_sections(files) {
             return Ok(Vec::new(alloc));
         }
         all_addresses(alloc, self.extents.as_slice())

@@ -14,7 +14,8 @@ use Rattle.rv_image_laws.specs.Image.{Image}
 use Rattle.rv_image_laws.specs.ImageOf.{ImageOf}
 use Rattle.rv_object_file_laws.specs.Parts.{is_section}
 use Rattle.rv_debug_laws.specs.declared.carried.Carried.{Carried}
-use Rattle.rv_debug_laws.specs.Carried.{Merged, section_alignment, debug_names, debug_section, section_names_in, with_objects}
+use Rattle.rv_debug_laws.specs.Carried.{Merged, section_alignment, debug_section, section_names_in, with_objects}
+use Rattle.rv_debug_laws.specs.CarriedNames.{carried_names}
 use Rattle.rv_debug_laws.specs.File.{retabled}
 
 -- ---- the executable's own debug sections
@@ -38,6 +39,7 @@ abbrev pub has_strings : (name : List ℕ) → Bool
 has_strings name =
     bytes_eq name (codes ".debug_str" ++ 0 ∷ [])
     || bytes_eq name (codes ".debug_line_str" ++ 0 ∷ [])
+    || bytes_eq name (codes ".comment" ++ 0 ∷ [])
 
 abbrev pub merged_header : (place name : ℕ) → Merged → SectionHeader
 merged_header place name m = record {
@@ -110,7 +112,7 @@ pub record IsCarriedFile (file : List ℕ) (objects : List Carried) (new : List 
   pub merged : List Merged
   pub opens : first_true (open_tests file) ≡ None
   pub named : is_section file (names_section file) ≡ true
-  pub all : with_objects objects (own_sections file debug_names) ≡ Some merged
+  pub all : with_objects objects (own_sections file (carried_names objects)) ≡ Some merged
   pub few : length (headers_of file merged) < 0xFF00
   pub low : carried_end file merged < 2 ^ 63
   pub short : length (strings_of file merged) < 2 ^ 32

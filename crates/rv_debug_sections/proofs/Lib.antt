@@ -10,3 +10,5 @@ pub mod WritingLemmas
 pub mod PartLemmas
 -- What is written anew behind some bytes and their padding.
 pub mod PaddedLemmas
+-- The names and references of sections, one after another.
+pub mod NamesLemmas

@@ -1,6 +1,7 @@
 -- What the code's own types stand for.
 
 use Rattle.std.specs.Prelude.{ℕ, List, ◌++◌, take, drop, map}
+use Rattle.std.specs.Global.{Vec}
 use Rattle.rv_elf_laws.specs.Fields.{bytes_of, e_shoff, e_shentsize, e_shnum, e_shstrndx, section_header_size}
 use Rattle.rv_debug_laws.specs.Carried as laws
 use Rattle.rv_debug_sections.specs.declared.fill.Fill.{Fill}
@@ -28,6 +29,10 @@ plain_source o = record {
   addresses = o.addresses.now;
   parts = map plain_part o.parts.now;
 }
+
+-- names that are owned
+abbrev pub all_names : List (Vec ℕ) → List (List ℕ)
+all_names names = map (λ (name : Vec ℕ). name.items) names
 
 abbrev pub all_merged : List Merged → List laws.Merged
 all_merged ms = map plain_merged ms

@@ -147,7 +147,7 @@ fn relocate_by(
 }
 
 /// The relocation of this index, from 0, in a section of these bytes.
-fn rela_from(bytes: &[u8], index: usize) -> Rela
+pub(crate) fn rela_from(bytes: &[u8], index: usize) -> Rela
     requires { rela_size * index + rela_size ≤ length bytes.now }
     ensures { result ≡ rela_at (rela_size * index) bytes.now }
 {

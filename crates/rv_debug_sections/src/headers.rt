@@ -1,13 +1,13 @@
 //! The table of section headers.
 
-ghost use Rattle.std.specs.Prelude.{◌≡◌, ◌+◌, ◌<◌, ◌^◌, length, map, IfOk, IfSome, OnOk};
+ghost use Rattle.std.specs.Prelude.{◌≡◌, ◌+◌, ◌<◌, ◌^◌, length, IfOk, IfSome, OnOk};
 ghost use Rattle.rv_elf_laws.specs.Sections.{section_count, section_headers};
 ghost use Rattle.rv_debug_laws.specs.CarriedFile as laws;
-ghost use Rattle.rv_debug_sections.specs.Views.{all_merged, plain_merged};
+ghost use Rattle.rv_debug_sections.specs.Views.{all_merged, all_names, plain_merged};
 
 use crate::merged::Merged;
 use crate::named::{debug_section, section_names_in};
-use crate::names::{LINE_STR, STR};
+use crate::names::{COMMENT, LINE_STR, STR};
 use crate::part::section_alignment;
 use rv_elf::{ElfView, SHT_PROGBITS, SectionHeader, SectionIndex};
 use std::alloc::{AllocError, Global};
@@ -15,18 +15,19 @@ use std::alloc::{AllocError, Global};
 /// `sh_flags`: strings, of which equal ones may be joined (`SHF_MERGE`, `SHF_STRINGS`).
 const STRINGS: u64 = 0x30;
 
-/// The debug sections that a file has already.
-pub(crate) fn own_sections(
+/// The sections of these names that a file has already.
+pub(crate) fn own_sections<'n>(
     alloc: Global,
     view: &ElfView<'_>,
-    names: &[&'static [u8]],
-) -> Result<Vec<Merged>, AllocError>
+    names: &'n [Vec<u8>],
+) -> Result<Vec<Merged<'n>>, AllocError>
     ensures { IfOk result (λ sections. all_merged sections.items
-        ≡ laws.own_sections view.now.file.now (map (λ name. name.now) names.now)) }
+        ≡ laws.own_sections view.now.file.now (all_names names.now)) }
 {
     let strings = section_names_in(view);
     let mut sections = Vec::new(alloc);
     for name in names {
+        let name = name.as_slice();
         let index = debug_section(view, strings, name);
         sections.push(own_section(alloc, view, name, index)?)?;
     }
@@ -34,12 +35,12 @@ pub(crate) fn own_sections(
 }
 
 /// The section of a name, by its index, if the file has it.
-fn own_section(
+fn own_section<'n>(
     alloc: Global,
     view: &ElfView<'_>,
-    name: &'static [u8],
+    name: &'n [u8],
     index: Option<u16>,
-) -> Result<Merged, AllocError>
+) -> Result<Merged<'n>, AllocError>
     requires { IfSome index (λ index. index < section_count view.now.file.now) }
     ensures { IfOk result (λ section. plain_merged section
         ≡ laws.own_section view.now.file.now name.now index) }
@@ -82,11 +83,11 @@ pub(crate) fn headers_in(
 fn has_strings(name: &[u8]) -> bool
     ensures { result ≡ laws.has_strings name.now }
 {
-    name == STR || name == LINE_STR
+    name == STR || name == LINE_STR || name == COMMENT
 }
 
 /// The header of a merged section whose contents and whose name stand at these places.
-fn merged_header(place: u64, name: u32, merged: &Merged) -> SectionHeader
+fn merged_header(place: u64, name: u32, merged: &Merged<'_>) -> SectionHeader
     ensures { result ≡ laws.merged_header place name (plain_merged merged.now) }
 {
     let has_strings = has_strings(merged.name);
@@ -127,7 +128,7 @@ fn put_merged(
     headers: &mut Vec<SectionHeader>,
     place: u64,
     name: u32,
-    merged: &Merged,
+    merged: &Merged<'_>,
 ) -> Result<(), AllocError>
     ensures { OnOk result (headers.new.items
         ≡ laws.with_header place name (plain_merged merged.now) headers.old.items) }
@@ -143,7 +144,7 @@ pub(crate) fn put_headers(
     headers: &mut Vec<SectionHeader>,
     first: u64,
     first_name: u32,
-    merged: &[Merged],
+    merged: &[Merged<'_>],
 ) -> Result<(), AllocError>
     requires contents { first + length (laws.merged_contents (all_merged merged.now)) < 2 ^ 64 }
     requires names { first_name + length (laws.merged_names (all_merged merged.now)) < 2 ^ 32 }

@@ -19,11 +19,11 @@ use std::alloc::{AllocError, Global};
 /// `sh_flags`: the contents are compressed.
 const SHF_COMPRESSED: u64 = 0x800;
 
-/// A section of debug information, as it grows.
+/// A section that stands behind an executable, as it grows.
 #[derive(Drop)]
-pub(crate) struct Merged {
+pub(crate) struct Merged<'n> {
     /// Its name, with a zero behind it.
-    pub name: &'static [u8],
+    pub name: &'n [u8],
     /// Its index in the file behind which it is to stand, if it is there already.
     pub index: Option<u16>,
     pub alignment: u64,
@@ -90,7 +90,7 @@ fn put_section(
 
 /// Adds a part of an object to its merged section.
 fn put_part(
-    merged: &mut Merged,
+    merged: &mut Merged<'_>,
     source: &Source<'_, '_>,
     part: MergedPart,
 ) -> Result<(), CarryFault>
@@ -114,7 +114,7 @@ fn put_part(
 }
 
 /// Adds the sections of an object to the merged ones.
-fn put_parts(merged: &mut Vec<Merged>, source: &Source<'_, '_>) -> Result<(), CarryFault>
+fn put_parts(merged: &mut Vec<Merged<'_>>, source: &Source<'_, '_>) -> Result<(), CarryFault>
     requires { map plain_part source.now.parts.now
         ≡ map (laws.merged_part_of source.now.view.file.now) (all_merged merged.old.items) }
     ensures grown { OnOk result (laws.with_parts (plain_source source.now)
@@ -132,7 +132,7 @@ fn put_parts(merged: &mut Vec<Merged>, source: &Source<'_, '_>) -> Result<(), Ca
 /// Adds the debug sections of an object to the merged ones.
 fn put_object(
     alloc: Global,
-    merged: &mut Vec<Merged>,
+    merged: &mut Vec<Merged<'_>>,
     object: Carried<'_>,
 ) -> Result<(), CarryFault>
     ensures grown { OnOk result (laws.with_object object.entry (all_merged merged.old.items)
@@ -156,7 +156,7 @@ fn put_object(
 /// Adds the debug sections of objects to the merged ones.
 pub(crate) fn put_objects(
     alloc: Global,
-    merged: &mut Vec<Merged>,
+    merged: &mut Vec<Merged<'_>>,
     objects: &[Carried<'_>],
 ) -> Result<(), CarryFault>
     ensures grown { OnOk result (laws.with_objects objects.now (all_merged merged.old.items)

@@ -34,6 +34,9 @@ pub(crate) const STR: &[u8] = b".debug_str\0";
 /// The section of strings of line tables.
 pub(crate) const LINE_STR: &[u8] = b".debug_line_str\0";
 
+/// The strings that name tools.
+pub(crate) const COMMENT: &[u8] = b".comment\0";
+
 /// The lists of ranges of version 4.
 pub(crate) const RANGES: &[u8] = b".debug_ranges\0";
 

@@ -22,7 +22,7 @@ pub(crate) struct MergedPart {
 pub(crate) fn parts_of(
     alloc: Global,
     view: &ElfView<'_>,
-    merged: &[Merged],
+    merged: &[Merged<'_>],
 ) -> Result<Vec<MergedPart>, AllocError>
     ensures { IfOk result (λ parts. map plain_part parts.items
         ≡ map (laws.merged_part_of view.now.file.now) (map plain_merged merged.now)) }
@@ -36,7 +36,7 @@ pub(crate) fn parts_of(
 }
 
 /// The section that goes behind a merged section.
-fn merged_part_of(view: &ElfView<'_>, strings: &[u8], merged: &Merged) -> MergedPart
+fn merged_part_of(view: &ElfView<'_>, strings: &[u8], merged: &Merged<'_>) -> MergedPart
     requires { strings.now ≡ laws.section_names_in view.now.file.now }
     ensures { plain_part result ≡ laws.merged_part_of view.now.file.now (plain_merged merged.now) }
 {

@@ -1,18 +1,22 @@
 //! What an object brings.
 
-ghost use Rattle.std.specs.Prelude.{◌≡◌, ◌++◌, ◌∷◌, [], codes, map};
-ghost use Rattle.std.specs.List.{list_any};
-ghost use Rattle.rv_debug_laws.specs.Carried.{debug_names, has_section};
+ghost use Rattle.std.specs.Prelude.{◌≡◌, ◌++◌, ◌∷◌, [], codes};
+ghost use Rattle.rv_debug_laws.specs.Carried.{has_section};
+ghost use Rattle.rv_debug_laws.specs.CarriedNames.{has_carried};
 
+use crate::carried::first_carried;
 use crate::named::{debug_section, section_names_in};
-use crate::names::{DEBUG_NAMES, LINE};
+use crate::names::LINE;
 use rv_elf::ElfView;
 
-/// Whether an object has a debug section.
-pub fn has_debug_sections(file: &[u8]) -> bool
-    ensures { result ≡ list_any (has_section file.now) debug_names }
+/// Whether an object has a section that stands behind the executable.
+pub fn has_carried_sections(file: &[u8]) -> bool
+    ensures { result ≡ has_carried file.now }
 {
-    has_any(file, &DEBUG_NAMES)
+    match ElfView::open(file) {
+        Ok(view) => first_carried(&view).is_some(),
+        Err(_) => false,
+    }
 }
 
 /// Whether an object has the lines of its code.
@@ -20,18 +24,6 @@ pub fn has_line_table(file: &[u8]) -> bool
     ensures { result ≡ has_section file.now (codes ".debug_line" ++ 0 ∷ []) }
 {
     has_section(file, LINE)
-}
-
-/// Whether an object has a section of these names.
-fn has_any(file: &[u8], names: &[&'static [u8]]) -> bool
-    ensures { result ≡ list_any (has_section file.now) (map (λ name. name.now) names.now) }
-{
-    for name in names {
-        if has_section(file, name) {
-            return true;
-        }
-    }
-    false
 }
 
 /// Whether an object has a section of a name.

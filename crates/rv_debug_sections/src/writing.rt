@@ -1,4 +1,4 @@
-//! Writes the file with the debug sections of objects.
+//! Writes the file with the sections of objects that no program loads.
 
 ghost use Rattle.std.specs.Prelude.{◌≡◌, ℕ, ◌+◌, ◌-◌, ◌≤◌, ◌<◌, ◌^◌, ◌⊎◌, List, ◌++◌, Some, None, true, false, length, flat_map, replicate, IfOk, IfErr, IfSome, IfNone, OnOk};
 ghost use Rattle.rv_fault.specs.declared.file_fault.FileFault.{FileFault};
@@ -9,18 +9,20 @@ ghost use Rattle.rv_object_file_laws.specs.Parts.{is_section};
 ghost use Rattle.rv_size_laws.specs.Alignment.{aligned};
 ghost use Rattle.rv_debug_laws.specs.Carried.{section_names_in};
 ghost use Rattle.rv_debug_laws.specs.CarriedFile as laws;
+ghost use Rattle.rv_debug_laws.specs.CarriedNames.{carried_names};
 ghost use Rattle.rv_debug_laws.specs.CarriedFile.{merged_names};
 ghost use Rattle.rv_debug_laws.specs.File.{retabled};
 ghost use Rattle.rv_debug_laws.specs.Stored.{can_grow};
 ghost use Rattle.rv_debug_sections.specs.declared.fault.CarryFault.TheVariants.{OutOfMemory};
 ghost use Rattle.rv_debug_sections.specs.Bounds.{AreEnds, AreInBounds};
-ghost use Rattle.rv_debug_sections.specs.Views.{all_merged, front_with};
+ghost use Rattle.rv_debug_sections.specs.Views.{all_merged, all_names, front_with};
 
+use crate::carried::carried_names;
 use crate::fault::CarryFault;
 use crate::headers::{headers_in, own_sections, put_header, put_headers};
 use crate::merged::{Merged, put_objects};
 use crate::named::section_names_in;
-use crate::names::{DEBUG_NAMES, TOO_LONG};
+use crate::names::TOO_LONG;
 use crate::part::aligned;
 use rv_debug_laws::{Carried, carried_file_is_loaded};
 use rv_elf::{ElfView, ElfWriter, SECTION_HEADER_SIZE, SectionHeader, SectionIndex};
@@ -36,7 +38,7 @@ struct Ends {
     names: u64,
 }
 
-/// The file of an executable with the debug sections of objects.
+/// The file of an executable with the sections of objects that no program loads.
 pub fn with_sections_of(
     alloc: Global,
     file: &[u8],
@@ -50,11 +52,29 @@ pub fn with_sections_of(
     ensures refuses { IfErr result (λ fault. (fault ≡ OutOfMemory)
         ⊎ ((new : List ℕ) → laws.IsCarriedFile file.now objects.now new → ⊥)) }
 {
+    let names = carried_names(alloc, objects)?;
+    with_named_sections(alloc, file, names.as_slice(), objects)
+}
+
+/// The file of an executable with those of these names, which the objects bring.
+fn with_named_sections(
+    alloc: Global,
+    file: &[u8],
+    names: &[Vec<u8>],
+    objects: &[Carried<'_>],
+) -> Result<Vec<u8>, CarryFault>
+    requires { all_names names.now ≡ carried_names objects.now }
+    ensures written { IfOk result (λ new. laws.IsCarriedFile file.now objects.now new.items) }
+    ensures loaded { IfOk result
+        (λ new. can_grow file.now ≡ true → laws.IsLoadedSame file.now new.items) }
+    ensures refuses { IfErr result (λ fault. (fault ≡ OutOfMemory)
+        ⊎ ((new : List ℕ) → laws.IsCarriedFile file.now objects.now new → ⊥)) }
+{
     carried_file_is_loaded();
     let Some(view) = open(file) else {
         return Err(CarryFault::NoSections);
     };
-    let mut merged = own_sections(alloc, &view, &DEBUG_NAMES)?;
+    let mut merged = own_sections(alloc, &view, names)?;
     put_objects(alloc, &mut merged, objects)?;
     let Some(new) = file_with(alloc, &view, merged.as_slice())? else {
         return Err(CarryFault::TooLong);
@@ -86,7 +106,7 @@ fn open(file: &[u8]) -> Option<ElfView<'_>>
 fn file_with(
     alloc: Global,
     view: &ElfView<'_>,
-    merged: &[Merged],
+    merged: &[Merged<'_>],
 ) -> Result<Option<Vec<u8>>, AllocError>
     requires long { 64 ≤ length view.now.file.now }
     requires named { is_section view.now.file.now (names_section view.now.file.now) ≡ true }
@@ -109,7 +129,7 @@ fn file_with(
 }
 
 /// Where what stands behind a file ends; none where a number is too large.
-fn ends_of(view: &ElfView<'_>, own: &[u8], merged: &[Merged]) -> Option<Ends>
+fn ends_of(view: &ElfView<'_>, own: &[u8], merged: &[Merged<'_>]) -> Option<Ends>
     requires { own.now ≡ section_names_in view.now.file.now }
     ensures some { IfSome result (λ ends. AreEnds view.now.file.now (all_merged merged.now) ends) }
     ensures none { IfNone result
@@ -126,7 +146,7 @@ fn ends_of(view: &ElfView<'_>, own: &[u8], merged: &[Merged]) -> Option<Ends>
 }
 
 /// The place behind the contents of sections that stand from a place on.
-fn contents_end(place: u64, merged: &[Merged]) -> Option<u64>
+fn contents_end(place: u64, merged: &[Merged<'_>]) -> Option<u64>
     ensures some { IfSome result
         (λ end. end ≡ place + length (laws.merged_contents (all_merged merged.now))) }
     ensures none { IfNone result
@@ -140,7 +160,7 @@ fn contents_end(place: u64, merged: &[Merged]) -> Option<u64>
 }
 
 /// The place behind the names of sections that stand from a place on.
-fn names_end(place: u64, merged: &[Merged]) -> Option<u64>
+fn names_end(place: u64, merged: &[Merged<'_>]) -> Option<u64>
     ensures some { IfSome result
         (λ end. end ≡ place + length (merged_names (all_merged merged.now))) }
     ensures none { IfNone result
@@ -158,7 +178,7 @@ fn headers_of(
     alloc: Global,
     view: &ElfView<'_>,
     own: &[u8],
-    merged: &[Merged],
+    merged: &[Merged<'_>],
     ends: Ends,
 ) -> Result<Vec<SectionHeader>, AllocError>
     requires own { own.now ≡ section_names_in view.now.file.now }
@@ -201,7 +221,7 @@ fn put_file(
     alloc: Global,
     view: &ElfView<'_>,
     own: &[u8],
-    merged: &[Merged],
+    merged: &[Merged<'_>],
     headers: &[SectionHeader],
     ends: Ends,
 ) -> Result<Vec<u8>, AllocError>
@@ -259,7 +279,7 @@ fn put_front(
 }
 
 /// Writes the contents of sections.
-fn put_contents(out: &mut ElfWriter, merged: &[Merged]) -> Result<(), AllocError>
+fn put_contents(out: &mut ElfWriter, merged: &[Merged<'_>]) -> Result<(), AllocError>
     ensures { OnOk result (out.new ≡ out.old ++ laws.merged_contents (all_merged merged.now)) }
 {
     for section in merged {
@@ -269,7 +289,7 @@ fn put_contents(out: &mut ElfWriter, merged: &[Merged]) -> Result<(), AllocError
 }
 
 /// Writes these names of sections, and those of merged sections.
-fn put_strings(out: &mut ElfWriter, own: &[u8], merged: &[Merged]) -> Result<(), AllocError>
+fn put_strings(out: &mut ElfWriter, own: &[u8], merged: &[Merged<'_>]) -> Result<(), AllocError>
     ensures { OnOk result (out.new ≡ out.old
         ++ (own.now ++ merged_names (all_merged merged.now))) }
 {
@@ -278,7 +298,7 @@ fn put_strings(out: &mut ElfWriter, own: &[u8], merged: &[Merged]) -> Result<(),
 }
 
 /// Writes the names of merged sections.
-fn put_names(out: &mut ElfWriter, merged: &[Merged]) -> Result<(), AllocError>
+fn put_names(out: &mut ElfWriter, merged: &[Merged<'_>]) -> Result<(), AllocError>
     ensures { OnOk result (out.new ≡ out.old ++ merged_names (all_merged merged.now)) }
 {
     for section in merged {

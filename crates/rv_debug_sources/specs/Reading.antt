@@ -19,7 +19,7 @@ said_of l = record {
 }
 
 abbrev pub read_so_far : Reader → Read
-read_so_far r = record { edits = r.edits.items; loads = r.loads; said = said_of r.lines }
+read_so_far r = record { edits = r.edits.items; said = said_of r.lines }
 
 -- what a reader has found, with what it finds in these tokens
 abbrev pub found_with : Reader → List Token → Read

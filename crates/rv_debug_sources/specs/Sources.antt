@@ -1,25 +1,26 @@
--- How a source is changed, so that what debug sections refer to is kept: each statement that opens
--- one has the flag `a`, LEB128 numbers are bytes, `.loc` is a label, `.file N` is nothing, a label
--- stands where a section with such rows is left, and all else is the source's; behind it stands the
--- line table (GNU as, "Statements", ".section", ".uleb128", ".sleb128", ".loc", ".file").
+-- How a source is changed, so that what sections without the flag `a` refer to is kept: each
+-- statement that opens one has the flag, LEB128 numbers are bytes, `.loc` is a label, `.file N` is
+-- nothing, a label stands where a section with such rows is left, and all else is the source's;
+-- behind it stands the line table (GNU as, "Statements", ".section", ".uleb128", ".sleb128", ".loc",
+-- ".file").
 
-use Rattle.std.specs.Prelude.{ℕ, ◌+◌, ◌-◌, ◌^◌, ◌==◌, nat_lt, nat_le, Bool, true, false, ◌&&◌, ◌||◌, List, [], ◌∷◌, ◌++◌, length, take, drop, codes, bytes_eq, Option, Some, None, option_map, option_and_then, slice_get, if◌then◌else◌}
-use Rattle.std.specs.List.{list_any}
+use Rattle.std.specs.Prelude.{ℕ, ◌+◌, ◌-◌, ◌^◌, ◌==◌, nat_lt, nat_le, Bool, true, false, ◌&&◌, List, [], ◌∷◌, ◌++◌, length, take, drop, codes, bytes_eq, Option, Some, None, option_map, option_and_then, slice_get, if◌then◌else◌}
+use Rattle.std.specs.List.{list_any, find}
 use Rattle.rv_expression_laws.specs.Front.{tokens_from}
 use Rattle.rv_expression_laws.specs.Grammar.{Kind, Name, Text}
 use Rattle.rv_expression_laws.specs.Lexing.{Token}
-use Rattle.rv_debug_laws.specs.Marks.{token_number, is_comma, is_minus, ends_statement, is_colon}
+use Rattle.rv_unit_laws.specs.Sections.{section_with}
+use Rattle.rv_debug_laws.specs.Marks.{token_number, is_minus, ends_statement, is_colon}
 use Rattle.rv_debug_sources.specs.declared.edit.Change.{Change}
 use Rattle.rv_debug_sources.specs.declared.edit.Change.TheVariants.{Flag, Flags, Unsigned, Signed, RowLabel, EndLabel, Nothing}
 use Rattle.rv_debug_sources.specs.declared.edit.Edit.{Edit}
 use Rattle.rv_debug_sources.specs.declared.edit.Statement.{Statement}
-use Rattle.rv_debug_sources.specs.declared.edit.Statement.TheVariants.{Kept, Changed, Loading, Named, Placed}
+use Rattle.rv_debug_sources.specs.declared.edit.Statement.TheVariants.{Kept, Changed, Named, Placed}
 use Rattle.rv_debug_sources.specs.declared.line.SaidFile.{SaidFile}
 use Rattle.rv_debug_sources.specs.declared.line.LineRow.{LineRow}
 use Rattle.rv_debug_sources.specs.Leb128.{unsigned_text, signed_text}
-use Rattle.rv_debug_sources.specs.Names.{is_debug_name}
 use Rattle.rv_debug_sources.specs.Lines as lines
-use Rattle.rv_debug_sources.specs.Lines.{Said, nothing_said, file_said, may_stand, with_file, row_said, enters_section}
+use Rattle.rv_debug_sources.specs.Lines.{Said, nothing_said, file_said, may_stand, with_file, row_said, enters_section, is_string_kind}
 use Rattle.rv_debug_sources.specs.LineText.{part, with_label, row_front, end_front, with_table}
 
 -- ---- what edits make of a source
@@ -65,35 +66,40 @@ abbrev pub is_this_word : (word : List ℕ) → Option Kind → Bool
 is_this_word word (Some (Name name)) = bytes_eq name word
 is_this_word word _ = false
 
-abbrev pub is_debug : Option Kind → Bool
-is_debug (Some (Name name)) = is_debug_name name
-is_debug _ = false
-
 abbrev pub insertion : ℕ → Change → Statement
 insertion at change = Changed (record { start = at; stop = at; change = change })
+
+-- a section that is opened without flags is loaded if the front of its name says so
+abbrev pub is_loaded_name : Option Kind → Bool
+is_loaded_name (Some (Name name)) = (section_with name None None).loaded
+is_loaded_name _ = true
 
 -- flags go behind a name, and the flag `a` behind the quote that opens others
 abbrev pub behind_name : Option Token → Statement
 behind_name None = Kept
-behind_name (Some name) = insertion name.stop Flags
+behind_name (Some last) = insertion last.stop Flags
+
+abbrev pub without_flags : List Token → Statement
+without_flags ts =
+    if is_loaded_name (kind_in (slice_get ts 1)) then Kept
+    else behind_name (slice_get ts (length ts - 1))
 
 abbrev pub flags_with : (start : ℕ) → List ℕ → Statement
 flags_with start flags =
-    if list_any (λ flag. flag == 97) flags then Loading else insertion (start + 1) Flag
+    if list_any (λ flag. flag == 97) flags then Kept else insertion (start + 1) Flag
 
 abbrev pub flags_by : (start : ℕ) → Kind → Statement
 flags_by start (Text flags) = flags_with start flags
-flags_by start _ = Loading
+flags_by start _ = Kept
 
-abbrev pub inside_flags : Option Token → Statement
-inside_flags None = Loading
-inside_flags (Some flags) = flags_by flags.start flags.kind
+abbrev pub opened_by : List Token → Option Token → Statement
+opened_by ts None = without_flags ts
+opened_by ts (Some flags) = flags_by flags.start flags.kind
 
--- `.section NAME` and `.section NAME,"FLAGS"`; what else opens the section may have it loaded
+-- `.section NAME` and `.section NAME,"FLAGS"`, where flags are the only string. Only the first flags
+-- of a name count, so that those of a later statement may be what they like
 abbrev pub opening_in : List Token → Statement
-opening_in ts =
-    if length ts == 2 then behind_name (slice_get ts 1)
-    else if is_comma (kind_in (slice_get ts 2)) then inside_flags (slice_get ts 3) else Loading
+opening_in ts = opened_by ts (find (λ (t : Token). is_string_kind t.kind) ts)
 
 -- a signed number, if it has 64 bits
 abbrev pub above : ℕ → Option Change
@@ -160,9 +166,7 @@ loc_at said ts (Some t) = placed_by ts (row_said said t.start (drop 1 ts))
 
 abbrev pub statement_in : Said → List Token → Statement
 statement_in said ts =
-    if is_this_word (codes ".section") (kind_in (slice_get ts 0))
-    && is_debug (kind_in (slice_get ts 1))
-    then opening_in ts
+    if is_this_word (codes ".section") (kind_in (slice_get ts 0)) then opening_in ts
     else if is_this_word (codes ".uleb128") (kind_in (slice_get ts 0)) then unsigned_in ts
     else if is_this_word (codes ".sleb128") (kind_in (slice_get ts 0)) then signed_in ts
     else if is_this_word (codes ".file") (kind_in (slice_get ts 0))
@@ -189,10 +193,9 @@ statements_of source = statements_from [] (tokens_from 0 1 source)
 
 -- ---- what is read of statements
 
--- the edits, whether a debug section may be loaded, and what is said of lines
+-- the edits, and what is said of lines
 pub record Read : Type 0 where
   pub edits : List Edit
-  pub loads : Bool
   pub said : Said
 
 abbrev pub with_edit : Read → Edit → Said → Read
@@ -201,7 +204,6 @@ with_edit r edit said = record r { edits = r.edits ++ edit ∷ []; said = said }
 abbrev pub with_statement : Read → Statement → Read
 with_statement r Kept = r
 with_statement r (Changed edit) = with_edit r edit r.said
-with_statement r Loading = record r { loads = true }
 with_statement r (Named edit f) = with_edit r edit (with_file r.said f f.directory)
 with_statement r (Placed edit row) = with_edit r edit (lines.with_row r.said row)
 
@@ -231,16 +233,16 @@ read_all r [] = r
 read_all r (ts ∷ more) = read_all (read_next r ts) more
 
 abbrev pub nothing_read : Read
-nothing_read = record { edits = []; loads = false; said = nothing_said }
+nothing_read = record { edits = []; said = nothing_said }
 
 abbrev pub read_of : List ℕ → Read
 read_of source = read_all nothing_read (statements_of source)
 
 -- ---- the changed source
 
--- none where nothing is changed, or where the source itself has a debug section loaded
+-- none where nothing is changed
 abbrev pub stays_as_it_is : Read → Bool
-stays_as_it_is r = r.loads || (length r.edits == 0)
+stays_as_it_is r = length r.edits == 0
 
 abbrev pub changed_by : (source : List ℕ) → Read → Option (List ℕ)
 changed_by source r =

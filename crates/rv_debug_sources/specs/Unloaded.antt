@@ -1,63 +1,66 @@
--- Objects and files whose debug sections are not loaded (System V gABI, "Sections", sh_flags).
+-- Objects and files in which a section is loaded only if it is in the object of the source itself,
+-- whose sections are the same, up to some behind them (System V gABI, "Sections", sh_flags).
 
-use Rattle.std.specs.Prelude.{ℕ, ◌+◌, ◌-◌, ◌*◌, ◌/◌, ◌%◌, ◌==◌, nat_lt, Bool, false, not, ◌&&◌, List, ◌++◌, map, flat_map, filter, take, drop, Option, Some, None, slice_get, if◌then◌else◌}
+use Rattle.std.specs.Prelude.{ℕ, suc, ◌+◌, ◌-◌, ◌*◌, ◌/◌, ◌%◌, ◌==◌, Bool, false, not, ◌&&◌, List, [], ◌∷◌, ◌++◌, flat_map, filter, take, drop, Option, Some, None, slice_get, if◌then◌else◌}
 use Rattle.rv_elf_laws.specs.declared.section_header.SectionHeader.{SectionHeader}
 use Rattle.rv_elf_laws.specs.Fields.{number_in, e_shoff, section_header_size}
 use Rattle.rv_elf_laws.specs.Numbers.{shf_alloc}
 use Rattle.rv_elf_laws.specs.Records.{section_header_bytes}
-use Rattle.rv_elf_laws.specs.Sections.{section_count, section_headers, names_section, indexed_contents, string_at}
+use Rattle.rv_elf_laws.specs.Sections.{section_count, section_headers}
 use Rattle.rv_object_laws.specs.declared.row.Row.{Row}
 use Rattle.rv_object_laws.specs.Object.{Object, Section}
-use Rattle.rv_debug_sources.specs.Names.{is_debug_name}
+
+-- whether a section among these is loaded; what stands behind them is not
+abbrev pub is_loaded_section : Option Section → Bool
+is_loaded_section None = false
+is_loaded_section (Some s) = s.loaded
+
+abbrev pub is_loaded_at : List Section → (index : ℕ) → Bool
+is_loaded_at own index = is_loaded_section (slice_get own index)
 
 -- ---- rows
 
-abbrev pub is_debug_section : Option Section → Bool
-is_debug_section None = false
-is_debug_section (Some s) = is_debug_name s.name
-
--- a row of another section
+-- a row of a loaded section
 abbrev pub keeps_row : List Section → Row → Bool
-keeps_row sections r = not (is_debug_section (slice_get sections r.section))
+keeps_row own r = is_loaded_at own r.section
 
--- an object without the rows of its debug sections
-abbrev pub without_debug_rows : Object → Object
-without_debug_rows o = record {
+-- an object without the rows of sections that are not loaded
+abbrev pub without_unloaded_rows : List Section → Object → Object
+without_unloaded_rows own o = record {
   sections = o.sections;
   symbols = o.symbols;
-  rows = filter (keeps_row o.sections) o.rows;
+  rows = filter (keeps_row own) o.rows;
   rvc = o.rvc;
 }
 
 -- ---- flags
 
-abbrev pub is_debug_string : Option (List ℕ) → Bool
-is_debug_string None = false
-is_debug_string (Some name) = is_debug_name name
-
--- the names of sections begin in the section that e_shstrndx names; 0 is none
-abbrev pub is_debug_header : List ℕ → SectionHeader → Bool
-is_debug_header file h = not (names_section file == 0)
-    && nat_lt (names_section file) (section_count file)
-    && is_debug_string (string_at (indexed_contents file (names_section file)) h.sh_name)
-
 abbrev pub without_flag : ℕ → SectionHeader → SectionHeader
 without_flag flag h = record h { sh_flags = h.sh_flags - h.sh_flags / flag % 2 * flag }
 
--- a debug section has no SHF_ALLOC
-abbrev pub unloaded_header : List ℕ → SectionHeader → SectionHeader
-unloaded_header file h = if is_debug_header file h then without_flag shf_alloc h else h
+-- in a file section 0 is none, and behind it stand those of the object
+abbrev pub is_loaded_header : List Section → (index : ℕ) → Bool
+is_loaded_header own index = not (index == 0) && is_loaded_at own (index - 1)
+
+-- a section that is not loaded has no SHF_ALLOC
+abbrev pub unloaded_header : List Section → (index : ℕ) → SectionHeader → SectionHeader
+unloaded_header own index h =
+    if is_loaded_header own index then h else without_flag shf_alloc h
+
+-- these headers, of sections from an index on
+abbrev pub unloaded_headers : List Section → (index : ℕ) → List SectionHeader → List SectionHeader
+unloaded_headers own index [] = []
+unloaded_headers own index (h ∷ hs) = unloaded_header own index h ∷ unloaded_headers own (suc index) hs
 
 -- where the table of section headers ends
 abbrev pub table_end : List ℕ → ℕ
 table_end file = number_in e_shoff 0 file + section_header_size * section_count file
 
--- the table, in which debug sections are not loaded
-abbrev pub headers_bytes : List ℕ → List ℕ
-headers_bytes file =
-    flat_map section_header_bytes (map (unloaded_header file) (section_headers file))
+abbrev pub headers_bytes : List Section → List ℕ → List ℕ
+headers_bytes own file =
+    flat_map section_header_bytes (unloaded_headers own 0 (section_headers file))
 
--- a file whose debug sections are not loaded: all but the table of section headers is as it was
-abbrev pub unloaded : List ℕ → List ℕ
-unloaded file = take (number_in e_shoff 0 file) file
-    ++ (headers_bytes file ++ drop (table_end file) file)
+-- a file in which only such sections are loaded: all but the table of section headers is as it was
+abbrev pub unloaded : List Section → List ℕ → List ℕ
+unloaded own file = take (number_in e_shoff 0 file) file
+    ++ (headers_bytes own file ++ drop (table_end file) file)

@@ -43,8 +43,6 @@ pub enum Statement {
     Kept,
     /// It is changed.
     Changed(Edit),
-    /// It may have a debug section loaded.
-    Loading,
     /// It names a file.
     Named(Edit, SaidFile),
     /// It is a row of the line table.

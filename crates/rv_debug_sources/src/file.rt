@@ -1,57 +1,85 @@
-//! Files whose debug sections are not loaded.
+//! Files in which sections are not loaded that a source has not loaded.
 
-ghost use Rattle.std.specs.Prelude.{◌≡◌, ◌+◌, ◌*◌, ◌<◌, ◌⊎◌, ◌++◌, Some, drop, take, IfOk, IfErr, OnOk};
+ghost use Rattle.std.specs.Prelude.{◌≡◌, ◌+◌, ◌*◌, ◌<◌, ◌⊎◌, ◌++◌, Some, drop, map, take, IfOk, IfErr, OnOk};
 ghost use Rattle.rv_elf_laws.specs.Fields.{section_header_size};
 ghost use Rattle.rv_elf_laws.specs.FirstFault.{first_true, open_tests};
+ghost use Rattle.rv_elf_laws.specs.Numbers.{shf_alloc};
 ghost use Rattle.rv_elf_laws.specs.Sections.{section_count, section_header_of};
 ghost use Rattle.rv_fault.specs.declared.file_fault.FileFault.TheVariants.{OutOfMemory};
+ghost use Rattle.rv_object_types.specs.Sections.{section_of};
 ghost use Rattle.rv_debug_sources.specs.Unloaded as laws;
 
-use crate::name::is_debug_name;
+use crate::object::is_loaded;
 use rv_elf::{ElfView, ElfWriter, SECTION_HEADER_SIZE, SHF_ALLOC, SectionHeader, SectionIndex};
 use rv_fault::FileFault;
+use rv_object_types::Section;
 use std::alloc::{AllocError, Global};
 
-/// The file of an object whose debug sections are not loaded, or the first fault of its header and tables.
-pub fn unloaded(alloc: Global, file: &[u8]) -> Result<Vec<u8>, FileFault>
-    ensures bytes { IfOk result (λ bytes. bytes.items ≡ laws.unloaded file.now) }
+/// The file of an object in which only sections are loaded that are so among others, those of the source itself, or the first
+/// fault of its header and tables.
+pub fn unloaded(alloc: Global, file: &[u8], own: &[Section<'_>]) -> Result<Vec<u8>, FileFault>
+    ensures bytes { IfOk result (λ bytes.
+        bytes.items ≡ laws.unloaded (map section_of own.now) file.now) }
     ensures refuses { IfErr result
         (λ fault. (fault ≡ OutOfMemory) ⊎ (first_true (open_tests file.now) ≡ Some fault)) }
 {
     let view = ElfView::open(file)?;
-    Ok(unloaded_view(alloc, view)?)
+    Ok(unloaded_view(alloc, view, own)?)
 }
 
-/// The file of a view whose debug sections are not loaded.
-fn unloaded_view(alloc: Global, view: ElfView<'_>) -> Result<Vec<u8>, AllocError>
-    ensures { IfOk result (λ bytes. bytes.items ≡ laws.unloaded view.entry.file.now) }
+/// The file of a view in which only these sections are loaded.
+fn unloaded_view(
+    alloc: Global,
+    view: ElfView<'_>,
+    own: &[Section<'_>],
+) -> Result<Vec<u8>, AllocError>
+    ensures { IfOk result (λ bytes.
+        bytes.items ≡ laws.unloaded (map section_of own.now) view.entry.file.now) }
 {
     let file = view.file();
     let header = view.header();
     let mut out = ElfWriter::new(alloc);
     out.raw(front(file, header.e_shoff))?;
-    put_headers(&mut out, &view)?;
+    put_headers(&mut out, &view, own)?;
     out.raw(behind(file, header.e_shoff, header.e_shnum))?;
     Ok(out.finish())
 }
 
-/// Adds the headers of the sections, of which debug sections are not loaded.
-fn put_headers(out: &mut ElfWriter, view: &ElfView<'_>) -> Result<(), AllocError>
-    ensures { OnOk result (out.new ≡ out.old ++ laws.headers_bytes view.now.file.now) }
+/// Adds the headers of the sections.
+fn put_headers(
+    out: &mut ElfWriter,
+    view: &ElfView<'_>,
+    own: &[Section<'_>],
+) -> Result<(), AllocError>
+    ensures { OnOk result (out.new
+        ≡ out.old ++ laws.headers_bytes (map section_of own.now) view.now.file.now) }
 {
     for index in 0..view.header().e_shnum {
-        out.section_header(&unloaded_at(view, index))?;
+        out.section_header(&unloaded_at(view, own, index))?;
     }
     Ok(())
 }
 
-/// The header of the section of an index, which is not loaded if debuggers read it.
-fn unloaded_at(view: &ElfView<'_>, index: u16) -> SectionHeader
+/// The header of the section of an index, which may not be loaded.
+fn unloaded_at(view: &ElfView<'_>, own: &[Section<'_>], index: u16) -> SectionHeader
     requires { index < section_count view.now.file.now }
-    ensures { result ≡ laws.unloaded_header view.now.file.now
+    ensures { result ≡ laws.unloaded_header (map section_of own.now) index
         (section_header_of view.now.file.now index) }
 {
-    unloaded_header(view, view.section_header(SectionIndex(index)))
+    let header = view.section_header(SectionIndex(index));
+    if index > 0 && is_loaded(own, index as usize - 1) {
+        return header;
+    }
+    without_flag(header)
+}
+
+/// A header of a section that is not loaded.
+fn without_flag(header: SectionHeader) -> SectionHeader
+    ensures { result ≡ laws.without_flag shf_alloc header }
+{
+    let mut unloaded = header;
+    unloaded.sh_flags -= header.sh_flags / SHF_ALLOC % 2 * SHF_ALLOC;
+    unloaded
 }
 
 /// The bytes before an offset.
@@ -69,30 +97,4 @@ fn behind(file: &[u8], at: u64, count: u16) -> &[u8]
         return &[];
     };
     file.get(end..).unwrap_or(&[])
-}
-
-/// A header of a section, which is not loaded if debuggers read it.
-fn unloaded_header(view: &ElfView<'_>, header: SectionHeader) -> SectionHeader
-    ensures { result ≡ laws.unloaded_header view.now.file.now header }
-{
-    if !is_debug_header(view, &header) {
-        return header;
-    }
-    let mut unloaded = header;
-    unloaded.sh_flags -= header.sh_flags / SHF_ALLOC % 2 * SHF_ALLOC;
-    unloaded
-}
-
-/// Whether a header is that of a debug section.
-fn is_debug_header(view: &ElfView<'_>, header: &SectionHeader) -> bool
-    ensures { result ≡ laws.is_debug_header view.now.file.now header.now }
-{
-    let names = view.header().e_shstrndx;
-    if names == 0 || names >= view.header().e_shnum {
-        return false;
-    }
-    match view.name(SectionIndex(names), header.sh_name) {
-        Some(name) => is_debug_name(name),
-        None => false,
-    }
 }

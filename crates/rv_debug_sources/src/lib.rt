@@ -1,10 +1,10 @@
-//! Sources and objects with the sections that debuggers read, as compilers write these (`.debug_info` and others).
+//! Sources and objects with what sections refer to that are not loaded, as those that debuggers read (`.debug_info`).
 //!
-//! Such a section is not loaded, and the language keeps of sections that are not loaded their bytes alone. So that what they
-//! refer to is kept, the source is changed before it is read ([`changed_source`]): each `.section` of a debug section gets the
-//! flag `a`, in its line, as `specs/Sources` defines it by tokens, and LEB128 numbers become bytes. What is assembled of it has
-//! relocations for these sections as for loaded data. Of the object the rows of their statements are left out
-//! ([`without_debug_rows`]), and in its file they lose the flag again ([`unloaded`]): the file has what it has without this,
+//! The language keeps of such a section its bytes alone. So that what it refers to is kept, the source is changed before it is
+//! read ([`changed_source`]): each `.section` of a section without the flag `a` gets the flag, in its line, as `specs/Sources`
+//! defines it by tokens, and LEB128 numbers become bytes. What is assembled of it has relocations for all sections as for loaded
+//! ones. By the object of the source itself, which has the same sections, it loses the rows of those that are not loaded
+//! ([`without_unloaded_rows`]), and in its file these lose the flag again ([`unloaded`]): the file has what it has without this,
 //! and the relocations of these sections.
 //!
 //! Lines that a source says of its code by `.file N` and `.loc` become a line table, which stands as data behind its last line:
@@ -15,9 +15,9 @@
 //! It knows neither what the sections mean nor where statements stand.
 //!
 //! ```text
-//! let changed = changed_source(alloc, b"f: ret\n.section .debug_x,\"\"\n.8byte f\n")?;
+//! let changed = changed_source(alloc, b"f: ret\n.section .info,\"\"\n.8byte f\n")?;
 //! // f: ret
-//! // .section .debug_x,"a"
+//! // .section .info,"a"
 //! // .8byte f
 //! ```
 //!
@@ -32,7 +32,6 @@ mod label;
 mod leb128;
 mod line;
 mod loc;
-mod name;
 mod object;
 mod program;
 mod said;
@@ -43,5 +42,5 @@ mod tokens;
 
 pub use edit::{Change, Edit};
 pub use file::unloaded;
-pub use object::without_debug_rows;
+pub use object::without_unloaded_rows;
 pub use source::{changed_source, plain_source};

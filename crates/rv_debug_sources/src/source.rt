@@ -19,16 +19,14 @@ use std::alloc::{AllocError, Global};
 struct Reader<'a> {
     /// The edits of its statements.
     edits: Vec<Edit>,
-    /// One of them may have a debug section loaded.
-    loads: bool,
     /// What they say of lines.
     lines: Lines,
     /// The tokens of the statement that has begun.
     begun: Vec<Token<'a>>,
 }
 
-/// A source whose debug sections are opened as if they were loaded, with the line table that its `.loc` make; none where
-/// nothing is changed, or where the source has a debug section loaded. A source of 4 GiB is none.
+/// A source whose sections are opened as if all of them were loaded, with the line table that its `.loc` make; none where
+/// nothing is changed. A source of 4 GiB is none.
 pub fn changed_source(alloc: Global, source: &[u8]) -> Result<Option<Vec<u8>>, AllocError>
     ensures { IfOk result (λ changed. length source.now + 1 < 2 ^ 32
         → option_map (λ text. text.items) changed ≡ laws.changed source.now) }
@@ -62,7 +60,6 @@ fn read<'a>(alloc: Global, source: &'a [u8]) -> Result<Reader<'a>, AllocError>
     let mut cursor = Cursor::new(Lexer::new(source));
     let mut reader = Reader {
         edits: Vec::new(alloc),
-        loads: false,
         lines: Lines::new(alloc),
         begun: Vec::new(alloc),
     };
@@ -89,7 +86,7 @@ impl<'a> Reader<'a> {
     fn is_kept(&self) -> bool
         ensures { result ≡ laws.stays_as_it_is (read_so_far self.now) }
     {
-        self.loads || self.edits.is_empty()
+        self.edits.is_empty()
     }
 
     /// Takes the next token.
@@ -164,10 +161,6 @@ impl<'a> Reader<'a> {
         match statement {
             Statement::Kept => Ok(()),
             Statement::Changed(edit) => Ok(self.edits.push(edit)?),
-            Statement::Loading => {
-                self.loads = true;
-                Ok(())
-            }
             Statement::Named(edit, file) => {
                 self.edits.push(edit)?;
                 self.lines.name(file)

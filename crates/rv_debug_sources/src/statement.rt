@@ -8,14 +8,14 @@ ghost use Rattle.rv_debug_sources.specs.Sources as laws;
 use crate::edit::{Change, Edit, Statement};
 use crate::line::{LineRow, SaidFile};
 use crate::said::{Lines, file_said};
-use crate::tokens::{is_comma_at, is_debug_at, is_minus_at, is_word_at, number_at};
+use crate::tokens::{flags_in, is_loaded_at, is_minus_at, is_word_at, number_at};
 use rv_lexer::{Token, TokenKind, string_contains};
 
 /// What becomes of a statement.
 pub(crate) fn statement_in(lines: &Lines, tokens: &[Token<'_>]) -> Statement
     ensures { result ≡ laws.statement_in (said_of lines.now) (map token_of tokens.now) }
 {
-    if is_word_at(tokens, 0, b".section") && is_debug_at(tokens, 1) {
+    if is_word_at(tokens, 0, b".section") {
         return opening_in(tokens);
     }
     if is_word_at(tokens, 0, b".uleb128") {
@@ -116,36 +116,26 @@ fn whole(tokens: &[Token<'_>], change: Change) -> Statement
     replaced_by(tokens, tokens.len().saturating_sub(1), change)
 }
 
-/// What becomes of the statement that opens a debug section.
+/// What becomes of the statement that opens a section.
 fn opening_in(tokens: &[Token<'_>]) -> Statement
     ensures { result ≡ laws.opening_in (map token_of tokens.now) }
 {
-    if tokens.len() == 2 {
-        return behind_name(tokens);
-    }
-    if is_comma_at(tokens, 2) {
-        return inside_flags(tokens);
-    }
-    Statement::Loading
-}
-
-/// Flags go behind the name.
-fn behind_name(tokens: &[Token<'_>]) -> Statement
-    ensures { result ≡ laws.behind_name (slice_get (map token_of tokens.now) 1) }
-{
-    match tokens.get(1) {
-        Some(name) => insertion(name.stop as usize, Change::Flags),
-        None => Statement::Kept,
-    }
-}
-
-/// The flag goes behind the quote that opens the flags.
-fn inside_flags(tokens: &[Token<'_>]) -> Statement
-    ensures { result ≡ laws.inside_flags (slice_get (map token_of tokens.now) 3) }
-{
-    match tokens.get(3) {
+    match flags_in(tokens) {
         Some(flags) => flags_by(flags.start, flags.kind),
-        None => Statement::Loading,
+        None => without_flags(tokens),
+    }
+}
+
+/// Flags go behind the name, unless its front has the section loaded.
+fn without_flags(tokens: &[Token<'_>]) -> Statement
+    ensures { result ≡ laws.without_flags (map token_of tokens.now) }
+{
+    if is_loaded_at(tokens, 1) {
+        return Statement::Kept;
+    }
+    match tokens.get(tokens.len().saturating_sub(1)) {
+        Some(last) => insertion(last.stop as usize, Change::Flags),
+        None => Statement::Kept,
     }
 }
 
@@ -155,7 +145,7 @@ fn flags_by(start: u32, flags: TokenKind<'_>) -> Statement
 {
     match flags {
         TokenKind::Text(flags) => flags_with(start, flags),
-        _ => Statement::Loading,
+        _ => Statement::Kept,
     }
 }
 
@@ -164,7 +154,7 @@ fn flags_with(start: u32, flags: &[u8]) -> Statement
     ensures { result ≡ laws.flags_with start (string_bytes flags.now) }
 {
     if string_contains(flags, b'a') {
-        return Statement::Loading;
+        return Statement::Kept;
     }
     insertion(start as usize + 1, Change::Flag)
 }

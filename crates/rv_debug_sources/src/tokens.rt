@@ -1,14 +1,16 @@
 //! Tokens of a statement, by their indices.
 
-ghost use Rattle.std.specs.Prelude.{◌≡◌, Some, map, slice_get};
+ghost use Rattle.std.specs.Prelude.{◌≡◌, Some, map, option_map, slice_get};
+ghost use Rattle.std.specs.List.{find};
+ghost use Rattle.rv_expression_laws.specs.Lexing.{Token as SaidToken};
 ghost use Rattle.rv_lexer.specs.Token.{kind_of, token_of};
 ghost use Rattle.rv_debug_laws.specs.Marks as marks;
 ghost use Rattle.rv_debug_sources.specs.Lines as lines;
 ghost use Rattle.rv_debug_sources.specs.Sources as laws;
 
 use crate::line::SourcePart;
-use crate::name::is_debug_name;
 use rv_lexer::{Punct, Token, TokenKind};
+use rv_unit::Section;
 
 /// Whether this word stands at an index.
 pub(crate) fn is_word_at(tokens: &[Token<'_>], index: usize, word: &[u8]) -> bool
@@ -29,39 +31,36 @@ fn is_word(kind: TokenKind<'_>, word: &[u8]) -> bool
     }
 }
 
-/// Whether the name of a debug section stands at an index.
-pub(crate) fn is_debug_at(tokens: &[Token<'_>], index: usize) -> bool
-    ensures { result ≡ laws.is_debug (laws.kind_in (slice_get (map token_of tokens.now) index)) }
+/// Whether the section is loaded whose name begins at an index, if no flags are given.
+pub(crate) fn is_loaded_at(tokens: &[Token<'_>], index: usize) -> bool
+    ensures { result ≡ laws.is_loaded_name (laws.kind_in (slice_get (map token_of tokens.now) index)) }
 {
     match tokens.get(index) {
-        Some(token) => is_debug(token.kind),
-        None => false,
+        Some(token) => is_loaded_name(token.kind),
+        None => true,
     }
 }
 
-fn is_debug(kind: TokenKind<'_>) -> bool
-    ensures { result ≡ laws.is_debug (Some (kind_of kind.entry)) }
+fn is_loaded_name(kind: TokenKind<'_>) -> bool
+    ensures { result ≡ laws.is_loaded_name (Some (kind_of kind.entry)) }
 {
     match kind {
-        TokenKind::Name(name) => is_debug_name(name),
-        _ => false,
+        TokenKind::Name(name) => Section::of(name, None, None).loaded,
+        _ => true,
     }
 }
 
-/// Whether a comma stands at an index.
-pub(crate) fn is_comma_at(tokens: &[Token<'_>], index: usize) -> bool
-    ensures { result ≡ marks.is_comma (laws.kind_in (slice_get (map token_of tokens.now) index)) }
+/// The flags of a statement that opens a section: its first string.
+pub(crate) fn flags_in<'a>(tokens: &[Token<'a>]) -> Option<Token<'a>>
+    ensures { option_map token_of result
+        ≡ find (λ (t : SaidToken). lines.is_string_kind t.kind) (map token_of tokens.now) }
 {
-    match tokens.get(index) {
-        Some(token) => is_comma(token.kind),
-        None => false,
+    for token in tokens {
+        if is_text(token.kind) {
+            return Some(*token);
+        }
     }
-}
-
-fn is_comma(kind: TokenKind<'_>) -> bool
-    ensures { result ≡ marks.is_comma (Some (kind_of kind.entry)) }
-{
-    matches!(kind, TokenKind::Punct(Punct::Comma))
+    None
 }
 
 /// Whether a minus sign stands at an index.

@@ -234,13 +234,12 @@ fn path_of(alloc: Global, file: &FileName<'_>, directory: &[u8]) -> Result<Vec<u
 
 /// Adds the path of a file from a directory.
 fn put_path(path: &mut Vec<u8>, file: &FileName<'_>, directory: &[u8]) -> Result<(), AllocError> {
-    if !is_absolute(file.name) {
-        if !is_absolute(file.directory) && file.compiled_in != directory {
-            put_directory(path, file.compiled_in)?;
-        }
-        put_directory(path, file.directory)?;
+    let [compiled_in, own, name] = file.path();
+    if compiled_in != directory {
+        put_directory(path, compiled_in)?;
     }
-    path.extend_from_slice(file.name)?;
+    put_directory(path, own)?;
+    path.extend_from_slice(name)?;
     Ok(())
 }
 
@@ -252,9 +251,4 @@ fn put_directory(path: &mut Vec<u8>, directory: &[u8]) -> Result<(), AllocError>
     path.extend_from_slice(directory)?;
     path.push(b'/')?;
     Ok(())
-}
-
-/// Whether a path begins at the root.
-fn is_absolute(path: &[u8]) -> bool {
-    path.starts_with(b"/")
 }

@@ -1,12 +1,12 @@
-//! Data that is not as it is written: numbers without room, and sections that are not loaded.
+//! Data that is not as it is written: numbers without room, sections that are not loaded, and what these refer to.
 
 use crate::effect::is_instruction;
 use crate::facts::Facts;
 use crate::warning::{Doubt, Warning, put};
-use rv_expression::Expr;
+use rv_expression::{Expr, Value};
 use rv_statement::{Opening, Statement, StatementKind, Width};
-use rv_unit::Section;
-use std::alloc::AllocError;
+use rv_unit::{Scope, Section, SectionOffset};
+use std::alloc::{AllocError, Global};
 
 /// Adds the numbers in data that have no room there.
 pub(crate) fn put_cut<'a>(
@@ -106,6 +106,63 @@ fn is_of_tools(name: &[u8]) -> bool {
         || name.starts_with(b".stab")
         || name.starts_with(b".riscv")
         || name.starts_with(b".gnu")
+}
+
+/// Adds the first value of each section that is not loaded of which nothing is kept, since it is no number.
+pub(crate) fn put_lost<'a>(
+    alloc: Global,
+    facts: &Facts<'a>,
+    room: &mut Statement<'a>,
+    found: &mut Vec<Warning>,
+) -> Result<(), AllocError> {
+    let mut told: Vec<u32> = Vec::new(alloc);
+    let mut scope = Scope::new(&facts.unit);
+    let statements = facts.unit.statements();
+    for index in 0..statements.len() {
+        let statement = statements.read(index, room);
+        if let Some(section) = facts.section(index)
+            && !facts.is_loaded(section)
+            && !told.contains(&section)
+            && is_lost(facts, &scope, index, &statement.kind)
+        {
+            put(found, Doubt::Lost, index)?;
+            told.push(section)?;
+        }
+        scope.pass();
+    }
+    Ok(())
+}
+
+/// Whether a statement, the next one of the scope, has a value that is no number.
+fn is_lost<'a>(
+    facts: &Facts<'a>,
+    scope: &Scope<'_, 'a>,
+    index: usize,
+    kind: &StatementKind<'a>,
+) -> bool {
+    let Some(place) = facts.unit.places().get(index) else {
+        return false;
+    };
+    match kind {
+        StatementKind::Value(_, expression) => is_open(scope, *place, expression),
+        StatementKind::Values(_, expressions) => {
+            for expression in expressions {
+                if is_open(scope, *place, expression) {
+                    return true;
+                }
+            }
+            false
+        }
+        _ => false,
+    }
+}
+
+/// Whether an expression of the next statement of the scope is no number.
+fn is_open<'a>(scope: &Scope<'_, 'a>, place: SectionOffset, expression: &Expr<'a>) -> bool {
+    match scope.value(place, expression, 1) {
+        Ok(Value::Constant(_)) | Err(_) => false,
+        Ok(_) => true,
+    }
 }
 
 /// Whether a statement has bytes.

@@ -127,6 +127,14 @@ impl<'a> Facts<'a> {
         self.unit.places().get(index).map(|place| place.section)
     }
 
+    /// Whether a section is loaded.
+    pub(crate) fn is_loaded(&self, section: u32) -> bool {
+        match self.unit.sections().get(section as usize) {
+            Some(extent) => extent.section.loaded,
+            None => true,
+        }
+    }
+
     /// Whether a section has code.
     pub(crate) fn is_code(&self, section: u32) -> bool {
         match self.unit.sections().get(section as usize) {

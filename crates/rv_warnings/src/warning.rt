@@ -30,6 +30,8 @@ pub(crate) enum Doubt {
     Cut(Width, u64),
     /// A section with bytes that no program has.
     Unloaded,
+    /// A value that an object has only for debuggers.
+    Lost,
     /// An access at this address, which is no multiple of so many bytes.
     Misaligned(u64, u64),
     /// The last instruction of its section, after which the run goes on.

@@ -3,7 +3,7 @@
 use crate::addresses::put_misaligned;
 use crate::calls::put_calls;
 use crate::conventions::put_conventions;
-use crate::data::{put_cut, put_unloaded};
+use crate::data::{put_cut, put_lost, put_unloaded};
 use crate::ends::put_ends;
 use crate::facts::Facts;
 use crate::warning::{Doubt, Warning};
@@ -88,7 +88,8 @@ fn put_found<'a>(
     put_ends(alloc, facts, room, found)?;
     put_cut(facts, room, found)?;
     put_unloaded(facts, room, found)?;
-    put_misaligned(alloc, facts, given.file, given.map, room, found)
+    put_misaligned(alloc, facts, given.file, given.map, room, found)?;
+    put_lost(alloc, facts, room, found)
 }
 
 /// What is said of a warning, where its statement is found in its line.
@@ -169,6 +170,9 @@ fn put_doubt(alloc: Global, text: &mut String, doubt: Doubt) -> Result<(), Alloc
         ),
         Doubt::Unloaded => text.push_str(
             "a program has no bytes of this section, whose name has no flags: .data, .rodata and .bss are loaded, or one with flags, as \"aw\"",
+        ),
+        Doubt::Lost => text.push_str(
+            "this is 0: of a section that is not loaded only numbers are kept, unless rv as, rv build and rv ld have -g",
         ),
         Doubt::RunsOff => text.push_str(
             "the run goes on behind this, where nothing stands: end it by call 93 (li a7, 93; ecall), or a function by ret",

@@ -20,6 +20,6 @@ returns c = λ short.
     c.in_ok-take-2.ensures []
     ∙ ap (found_with c.loop-reader.reader) (sym (last_one c.loop-reader.cursor ended))
     ∙ c.loop-reader.invariant
-    ∙ (λ i. read_all (record { edits = c.new-2.ensures.items i; loads = false; said = c.new-3.ensures i })
+    ∙ (λ i. read_all (record { edits = c.new-2.ensures.items i; said = c.new-3.ensures i })
     (statements_from (map token_of (c.new-4.ensures.items i)) (remaining c.new-cursor.result)))
     ∙ ap (λ ts. read_all nothing_read (statements_from [] ts)) (c.new-cursor.ensures ∙ c.new.ensures.whole short)

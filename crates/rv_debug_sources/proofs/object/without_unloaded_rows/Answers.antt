@@ -6,23 +6,25 @@ use Rattle.rv_object_laws.specs.Valid.{are_counted, are_rows, is_counted, is_row
 use Rattle.rv_object_types.specs.Parts.{symbol_of}
 use Rattle.rv_object_types.specs.Sections.{section_of}
 use Rattle.rv_debug_sources.specs.Unloaded.{keeps_row}
-use Rattle.rv_debug_sources.proofs.object.without_debug_rows.Goals as goal
+use Rattle.rv_debug_sources.proofs.object.without_unloaded_rows.Goals as goal
 
 pub invariant_of-result : goal.invariant_of-result
 invariant_of-result c =
     let o = c.args.object in
+    let own = map section_of c.args.own.now in
     let sections = map section_of o.sections.items in
-    let kept = filter_same _ (keeps_row sections) _ (λ x b f' k. search rules) _ _ c.retain.ensures.filtered in
+    let kept = filter_same _ (keeps_row own) _ (λ x b f' k. search rules) _ _ c.retain.ensures.filtered in
     record {
       indexed = o.indexed;
       defined = o.defined;
-      lie = ap (are_rows sections) kept ∙ all_kept (λ r. is_row_in r (slice_get sections r.section)) (keeps_row sections) o.rows.items o.lie;
-      counted = ap are_counted kept ∙ all_kept is_counted (keeps_row sections) o.rows.items o.counted;
+      lie = ap (are_rows sections) kept ∙ all_kept (λ r. is_row_in r (slice_get sections r.section)) (keeps_row own) o.rows.items o.lie;
+      counted = ap are_counted kept ∙ all_kept is_counted (keeps_row own) o.rows.items o.counted;
     }
 
 pub returns : goal.returns
 returns c =
     let o = c.args.object in
+    let own = map section_of c.args.own.now in
     let sections = map section_of o.sections.items in
-    let kept = filter_same _ (keeps_row sections) _ (λ x b f' k. search rules) _ _ c.retain.ensures.filtered in
+    let kept = filter_same _ (keeps_row own) _ (λ x b f' k. search rules) _ _ c.retain.ensures.filtered in
     ap (λ rows. record { sections = sections; symbols = map symbol_of o.symbols.items; rows = rows; rvc = o.rvc }) kept
