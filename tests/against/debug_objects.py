@@ -49,7 +49,8 @@ OTHERS = """
     .byte LAST - FIRST, 7
     .8byte nothing_defines_this
     .section .more-info
-    .4byte .Linfo, .
+    .4byte .Linfo
+    .4byte .
 .Lmore:
     .section .some.notes,"",@note
     .8byte LAST
@@ -84,7 +85,9 @@ class Object:
         """A symbol: its name, or that of the section where it stands, and the offset."""
         symbols, strings = self.bytes_of(self.headers[table]), self.bytes_of(self.headers[self.headers[table][6]])
         name, section, value = struct.unpack_from("<I2xHQ", symbols, 24 * index)
-        return (text_of_table(strings, name), 0) if name else (self.names[section], value)
+        text = text_of_table(strings, name)
+        # (GNU as gives the place of `.` a name with a blank)
+        return (text, 0) if text and " " not in text else (self.names[section], value)
 
     def relocations(self, index):
         """The relocations of a section: the offset, the kind, the symbol and what is added."""

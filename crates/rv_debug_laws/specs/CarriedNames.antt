@@ -18,8 +18,8 @@ use Rattle.rv_debug_laws.specs.Carried.{carried_section, debug_names, is_there, 
 
 -- bytes that no program loads, and that are no code and not to be left out (SHF_EXCLUDE)
 abbrev pub is_carried : SectionHeader → Bool
-is_carried h = h.sh_type == sht_progbits && not (is_loaded h) && not (is_executable h)
-    && not (has_flag 0x80000000 h)
+is_carried h = h.sh_type == sht_progbits && not (h.sh_size == 0) && not (is_loaded h)
+    && not (is_executable h) && not (has_flag 0x80000000 h)
 
 -- what GNU's script for linking leaves out, and what objects of this assembler say of their source
 abbrev pub is_left_out : (name : List ℕ) → Bool

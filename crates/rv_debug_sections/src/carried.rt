@@ -25,7 +25,8 @@ fn is_carried(header: &SectionHeader) -> bool
     let is_loaded = header.sh_flags / SHF_ALLOC % 2 == 1;
     let is_executable = header.sh_flags / SHF_EXECINSTR % 2 == 1;
     let is_excluded = header.sh_flags / SHF_EXCLUDE % 2 == 1;
-    header.sh_type == SHT_PROGBITS && !is_loaded && !is_executable && !is_excluded
+    let has_bytes = header.sh_type == SHT_PROGBITS && header.sh_size != 0;
+    has_bytes && !is_loaded && !is_executable && !is_excluded
 }
 
 /// Whether linkers leave sections of this name out, or they say of a source what only its own object has.
