@@ -10,7 +10,7 @@ use Rattle.rv_counts.specs.declared.rows.CountedInstruction.{CountedInstruction}
 use Rattle.rv_counts.specs.declared.rows.Done.{Done}
 use Rattle.rv_counts.specs.Kinds.{more}
 use Rattle.rv_counts.specs.Totals.{one_if}
-use Rattle.rv_counts.specs.Rows.{counted_if, sum_of, no_row, with_done, AreSpelled, HasOneMore, IsDoneAt, IsNoted, IsPlaced, IsRowOf, IsSpelled, IsWithin}
+use Rattle.rv_counts.specs.Rows.{counted_if, sum_of, no_row, with_done, AreSpelled, HasOneMore, IsDoneAt, IsNoted, IsFoundAt, IsRowOf, IsSpelled, IsWithin}
 use Rattle.rv_isa_laws.specs.Reader.{Reader}
 use Rattle.rv_isa_laws.specs.Run.{Got}
 use Rattle.rv_isa_laws.specs.Word.{Spells}
@@ -107,7 +107,7 @@ spelled_on before found after index pc code.NoInstruction done place did are = s
 
 -- a row that there was
 pub known_row : (rows : List CountedInstruction) (index pc bits : ℕ) (row : CountedInstruction) → index < length rows → get_or rows index row ≡ row → row.pc ≡ pc → row.bits ≡ bits → AreSpelled rows →
-    IsPlaced rows rows pc (Some bits) (record { fetched = code.Got row.inst row.bytes; index = index })
+    IsFoundAt rows rows pc (Some bits) (record { fetched = code.Got row.inst row.bytes; index = index })
 known_row rows index pc bits row below stands place same are =
     let is : IsSpelled row = subst IsSpelled stands (are index row below) in
     record {
@@ -118,7 +118,7 @@ known_row rows index pc bits row below stands place same are =
 
 -- a row that was added
 pub added_row : (rows after : List CountedInstruction) (pc bits bytes : ℕ) (inst : Inst) → after ≡ rows ++ (no_row pc bits inst bytes ∷ []) → ((r : Reader Spells StandsFor) → Got inst bytes ≡ spelled_at r (Some bits)) → AreSpelled rows →
-    IsPlaced rows after pc (Some bits) (record { fetched = code.Got inst bytes; index = length rows })
+    IsFoundAt rows after pc (Some bits) (record { fetched = code.Got inst bytes; index = length rows })
 added_row rows after pc bits bytes inst added reads are =
     let new : CountedInstruction = no_row pc bits inst bytes in
     let longer : length after ≡ length rows + 1 = ap (λ (xs : List CountedInstruction). length xs) added ∙ length-append rows (new ∷ []) in

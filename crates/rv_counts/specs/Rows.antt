@@ -134,13 +134,14 @@ IsNoted before after pc NoInstruction done = after ≡ before
 -- ---- what is found at an address
 
 -- of an instruction its row, and else nothing
-abbrev pub IsRowOf : (before after : List CountedInstruction) → (index pc : ℕ) → CodeFetched → Type 0
+abbrev pub IsRowOf : (before after : List CountedInstruction) → (index pc : ℕ) → CodeFetched →
+    Type 0
 IsRowOf before after index pc (code.Got i bytes) = IsFound before after index pc i
 IsRowOf before after index pc code.NoRight = after ≡ before
 IsRowOf before after index pc code.NoInstruction = after ≡ before
 
 -- what these bits spell is found, with its row
-pub record IsPlaced (before after : List CountedInstruction) (pc : ℕ) (bits : Option ℕ)
+pub record IsFoundAt (before after : List CountedInstruction) (pc : ℕ) (bits : Option ℕ)
     (found : Found) : Type 0 where
   pub place : IsRowOf before after found.index pc found.fetched
   pub stands : (r : Reader Spells StandsFor) → fetched_of found.fetched ≡ spelled_at r bits

@@ -7,7 +7,7 @@ ghost use Rattle.std.specs.Prelude.{◌≡◌, ◌++◌, ◌∷◌, true, length
 ghost use Rattle.rv_machine.specs.declared.fetch.Fetched.TheVariants.{Got, NoInstruction, NoRight};
 ghost use Rattle.rv_counts.specs.Kinds.{more};
 ghost use Rattle.rv_counts.specs.Totals.{one_if as number_if};
-ghost use Rattle.rv_counts.specs.Rows.{no_row, with_done, AreSpelled, IsDoneAt, IsPlaced, IsWithin};
+ghost use Rattle.rv_counts.specs.Rows.{no_row, with_done, AreSpelled, IsDoneAt, IsFoundAt, IsWithin};
 
 use crate::code_index::CodeIndex;
 use rv_image::Image;
@@ -140,7 +140,7 @@ impl Rows {
     fn known(&self, pc: u64, bits: u32) -> Option<Found>
         ensures within { IfSome result (λ found. IsWithin self.now.rows.items found.index found.fetched) }
         ensures placed { IfSome result (λ found. AreSpelled self.now.rows.items →
-            IsPlaced self.now.rows.items self.now.rows.items pc (Some bits) found) }
+            IsFoundAt self.now.rows.items self.now.rows.items pc (Some bits) found) }
     {
         let index = self.index.get(pc)?;
         if index >= self.rows.len() {
@@ -161,7 +161,7 @@ impl Rows {
     pub(crate) fn find(&mut self, pc: u64, bits: Option<u32>) -> Result<Found, AllocError>
         ensures within { IfOk result (λ found. IsWithin self.new.rows.items found.index found.fetched) }
         ensures placed { IfOk result (λ found. AreSpelled self.old.rows.items →
-            IsPlaced self.old.rows.items self.new.rows.items pc bits found) }
+            IsFoundAt self.old.rows.items self.new.rows.items pc bits found) }
     {
         let Some(bits) = bits else {
             return Ok(Found::no_right());
@@ -177,7 +177,7 @@ impl Rows {
     fn add(&mut self, pc: u64, bits: u32) -> Result<Found, AllocError>
         ensures within { IfOk result (λ found. IsWithin self.new.rows.items found.index found.fetched) }
         ensures placed { IfOk result (λ found. AreSpelled self.old.rows.items →
-            IsPlaced self.old.rows.items self.new.rows.items pc (Some bits) found) }
+            IsFoundAt self.old.rows.items self.new.rows.items pc (Some bits) found) }
     {
         match spelled(Some(bits)) {
             Fetched::Got(inst, bytes) => self.push(pc, bits, &inst, bytes),

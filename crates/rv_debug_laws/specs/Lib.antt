@@ -28,7 +28,7 @@ pub mod SourceNames
 pub mod Marks
 -- The debug sections of objects, merged: the sections of one name follow each other in the order of the objects.
 pub mod Carried
--- Which sections of objects stand behind an executable for debuggers, by their names.
+-- Which sections of objects stand behind an executable for debuggers: the debug sections.
 pub mod CarriedNames
 -- The file of an executable with the debug sections of objects: the merged sections.
 pub mod CarriedFile

@@ -48,9 +48,11 @@ unloaded_header own index h =
     if is_loaded_header own index then h else without_flag shf_alloc h
 
 -- these headers, of sections from an index on
-abbrev pub unloaded_headers : List Section → (index : ℕ) → List SectionHeader → List SectionHeader
+abbrev pub unloaded_headers : List Section → (index : ℕ) → List SectionHeader →
+    List SectionHeader
 unloaded_headers own index [] = []
-unloaded_headers own index (h ∷ hs) = unloaded_header own index h ∷ unloaded_headers own (suc index) hs
+unloaded_headers own index (h ∷ hs) =
+    unloaded_header own index h ∷ unloaded_headers own (suc index) hs
 
 -- where the table of section headers ends
 abbrev pub table_end : List ℕ → ℕ

@@ -1,6 +1,6 @@
 -- Offers in the order of their files and groups: where a file or a group begins and ends.
 
-use Rattle.std.proofs.Common.{◌≡◌, ◌⊎◌, inl, inr, ℕ, zero, suc, ◌<◌, ◌≤◌, Bool, true, false, List, length, map, nat_lt, nat_le, slice_index_or, max, Some, sym, ap, ◌∙◌, arith}
+use Rattle.std.proofs.Common.{◌≡◌, inl, inr, ℕ, ◌<◌, ◌≤◌, Bool, true, false, List, length, map, nat_lt, nat_le, slice_index_or, max, Some, sym, ap, ◌∙◌, arith}
 use Rattle.std.specs.Prelude.{◌&&◌, ◌==◌}
 use Rattle.std.specs.List.{slice_get}
 use Rattle.std.specs.List.Sorted.{IsNonDecreasingBy, IsPartitionPoint}
@@ -9,6 +9,7 @@ use Rattle.rv_list_laws.proofs.TruthLemmas.{and_first}
 use Rattle.rv_list_laws.proofs.ElementsLemmas.{get_index_or, index_or_get}
 use Rattle.rv_list_laws.proofs.MapLemmas.{get_map, get_unmap}
 use Rattle.rv_archive_laws.specs.Taken as laws
+use Rattle.rv_archive.proofs.NamesLemmas.{either}
 use Rattle.rv_inputs.specs.declared.offer.Offer.{Offer}
 use Rattle.rv_inputs.specs.Filed.{AreFiled, IsCut}
 use Rattle.rv_inputs.specs.Looking.{Meets}
@@ -41,11 +42,6 @@ cut_is p xs k point = record {
 }
 
 -- ---- where a file begins and ends, and a group
-
-either : (i k : ℕ) → (i < k) ⊎ (k ≤ i)
-either i zero = inr (omega arith)
-either zero (suc k) = inl (omega arith)
-either (suc i) (suc k) = elim (either i k) [ inl less ↦ inl (omega (arith, less)) | inr le ↦ inr (omega (arith, le)) ]
 
 module _ (key : laws.Offer → ℕ) (bound : ℕ) (offers : List laws.Offer) (k i : ℕ) (o : laws.Offer) (here : slice_get offers i ≡ Some o) where
   pub starts_by : IsCut (λ x. nat_lt (key x) bound) offers k → bound ≤ key o → k ≤ i

@@ -100,12 +100,14 @@ HasMoved (Ok (Ended e)) read written m = Unit {0}
 HasMoved (Err e) read written m = Unit {0}
 
 -- the same of a step that went on, where these bytes were moved, and this read and written
-abbrev pub HasMovedIn : {E : Type 0} → Result (Option End) E → Moved → List ℕ → List ℕ → Mem → Type 0
+abbrev pub HasMovedIn : {E : Type 0} → Result (Option End) E → Moved → List ℕ → List ℕ → Mem →
+    Type 0
 HasMovedIn (Ok None) moved read written m = AreMoved moved read written m
 HasMovedIn (Ok (Some e)) moved read written m = Unit {0}
 HasMovedIn (Err e) moved read written m = Unit {0}
 
-abbrev pub HasSeenIn : {E : Type 0} → Result (Option End) E → Accesses → Next → Effect → Mem → Type 0
+abbrev pub HasSeenIn : {E : Type 0} → Result (Option End) E → Accesses → Next → Effect → Mem →
+    Type 0
 HasSeenIn (Ok None) seen next effect m = AreSeen next effect m seen
 HasSeenIn (Ok (Some e)) seen next effect m = Unit {0}
 HasSeenIn (Err e) seen next effect m = Unit {0}

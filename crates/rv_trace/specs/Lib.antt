@@ -1,2 +1,2 @@
--- Which bytes of an event a line shows.
+-- Which bytes of a step a line shows.
 pub mod Shown

@@ -14,7 +14,7 @@ use Rattle.rv_counts.specs.declared.jumps.Turn.{Turn}
 use Rattle.rv_counts.specs.declared.rows.Done.{Done}
 use Rattle.rv_counts.specs.Counted.{has_executed, is_branching, is_calling, is_spelled}
 use Rattle.rv_counts.specs.Depth.{is_upper, with_sp}
-use Rattle.rv_counts.specs.Rows.{HasCounted, IsPlaced}
+use Rattle.rv_counts.specs.Rows.{HasCounted, IsFoundAt}
 use Rattle.rv_counts.proofs.CountsLemmas.{one_event_more}
 use Rattle.rv_counts.proofs.RowsLemmas.{noted, spelled_on}
 use Rattle.rv_counts.proofs.counts.CountsWatcher.after.Goals as goal
@@ -40,8 +40,8 @@ returns g c =
     record {
       told = λ stood reads past has.
           let placed = c.in_ok-found.ensures.placed has.spelled in
-          let here : IsPlaced old.rows.rows.items c.find.new.self.rows.items s.look.pc s.look.bits found =
-          subst (λ (b : Option ℕ). IsPlaced old.rows.rows.items c.find.new.self.rows.items s.look.pc b found) c.bits.ensures (subst (λ (pc : ℕ). IsPlaced old.rows.rows.items c.find.new.self.rows.items pc c.bits.result found) c.pc.ensures placed) in
+          let here : IsFoundAt old.rows.rows.items c.find.new.self.rows.items s.look.pc s.look.bits found =
+          subst (λ (b : Option ℕ). IsFoundAt old.rows.rows.items c.find.new.self.rows.items s.look.pc b found) c.bits.ensures (subst (λ (pc : ℕ). IsFoundAt old.rows.rows.items c.find.new.self.rows.items pc c.bits.result found) c.pc.ensures placed) in
           let is : f ≡ stood = fetched_once s.look.bits stood f here.stands reads in
           subst (λ (x : Fetched). HasCounted c.count-2.new.self c.count.new.self.rows.items c.set.new.self.values turn.calling c.note.new.self (past ++ (event_by x s hart m ∷ []))) is
           (one_event_more _ _ _ _ _ _ _ _ _ _ c.done_by-done.result past e has (c.count-2.ensures hart m) done
