@@ -20,6 +20,8 @@ FUNCTION = re.compile(r"( *)(?:pub(?:\([^)]*\))? |const |unsafe )*fn (\w+)")
 OF_ONLY = re.compile(r"only=\d+ proved=\d+")
 # A function whose own proof fails, and not that of one that it calls.
 FAILS = re.compile(r"fn \w+::(\S+): (?:no proof|not proved)(?!.*\bit calls\b)")
+# What the check says where it cannot try a function's contract.
+UNCOVERED = "the borrow checker does not cover this function"
 
 
 def changed_functions(folder, texts):
@@ -82,7 +84,7 @@ class Rounds:
         self.functions, self.is_used = set(), False
 
     def refused(self, edits):
-        """What is said of each edit that a round refuses, by its file."""
+        """What comes of each edit that a round refuses, and what is said of it, by its file."""
         told, left = {}, [*edits]
         while left:
             found = self.round(*self.together(left))
@@ -111,7 +113,8 @@ class Rounds:
         return made, functions
 
     def round(self, texts, functions):
-        """What is said of each of these edits that a check with all of them refuses."""
+        """The same of each of these edits that a check with all of them refuses. Where one makes a function of which no
+        contract was tried, it is a bad edit."""
         if not functions:
             return {}
         lines = self.checked(texts, functions.values()).stdout.rstrip("\n").split("\n")
@@ -122,10 +125,15 @@ class Rounds:
             edit: [line for it, line in fails.items() if any(it.endswith(f"::{path}") for path in paths)]
             for edit, paths in functions.items()
         }
-        label = f"must-fail {self.crate.name}/"
-        return {
-            it: f"{label}{os.path.basename(it)}: refused, as it must be: {why[0]}" for it, why in told.items() if why
-        }
+        return {it: self.outcome(it, why) for it, why in told.items() if why}
+
+    def outcome(self, edit, why):
+        """What comes of an edit for which functions fail, with the lines that say why, and what is said of it."""
+        label = f"must-fail {self.crate.name}/{os.path.basename(edit)}"
+        tried = next((it for it in why if UNCOVERED not in it), "")
+        if tried:
+            return self.rt.REFUSED, f"{label}: refused, as it must be: {tried}"
+        return self.rt.BAD, f"{label}: BAD EDIT: no contract was tried: {why[0]}"
 
     def checked(self, texts, functions):
         """The check of these functions alone, with some texts changed."""
@@ -162,7 +170,7 @@ def try_together(rt):
     def must_fail(crate, edit, flags, kept=None):
         if edit not in told and not kept:
             told.update(Rounds(rt, check, crate, flags).refused([edit]))
-        return (rt.REFUSED, told[edit]) if edit in told else of_whole_crate(crate, edit, flags, kept)
+        return told[edit] if edit in told else of_whole_crate(crate, edit, flags, kept)
 
     def checked(crate, texts, flags, kept):
         own = rounds.get(kept)
