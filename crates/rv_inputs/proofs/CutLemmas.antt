@@ -4,12 +4,11 @@ use Rattle.std.proofs.Common.{◌≡◌, inl, inr, ℕ, ◌<◌, ◌≤◌, Bool
 use Rattle.std.specs.Prelude.{◌&&◌, ◌==◌}
 use Rattle.std.specs.List.{slice_get}
 use Rattle.std.specs.List.Sorted.{IsNonDecreasingBy, IsPartitionPoint}
-use Rattle.std.proofs.lemmas.Bool.{ltb-true, ltb-false, leb-true, leb-false, eqb-true, eq-eqb, le-leb}
+use Rattle.std.proofs.lemmas.Bool.{cases_lt, ltb-true, ltb-false, leb-true, leb-false, eqb-true, eq-eqb, le-leb}
 use Rattle.rv_list_laws.proofs.TruthLemmas.{and_first}
 use Rattle.rv_list_laws.proofs.ElementsLemmas.{get_index_or, index_or_get}
 use Rattle.rv_list_laws.proofs.MapLemmas.{get_map, get_unmap}
 use Rattle.rv_archive_laws.specs.Taken as laws
-use Rattle.rv_archive.proofs.NamesLemmas.{either}
 use Rattle.rv_inputs.specs.declared.offer.Offer.{Offer}
 use Rattle.rv_inputs.specs.Filed.{AreFiled, IsCut}
 use Rattle.rv_inputs.specs.Looking.{Meets}
@@ -46,7 +45,7 @@ cut_is p xs k point = record {
 module _ (key : laws.Offer → ℕ) (bound : ℕ) (offers : List laws.Offer) (k i : ℕ) (o : laws.Offer) (here : slice_get offers i ≡ Some o) where
   pub starts_by : IsCut (λ x. nat_lt (key x) bound) offers k → bound ≤ key o → k ≤ i
   starts_by cut le =
-      elim (either i k) [
+      elim (cases_lt i k) [
         | inl less ↦ (let low = ltb-true (key o) bound (cut.before i o here less) in absurd (omega (arith, low, le)))
         | inr after ↦ after
       ]
@@ -56,7 +55,7 @@ module _ (key : laws.Offer → ℕ) (bound : ℕ) (offers : List laws.Offer) (k 
 
   pub ends_by : IsCut (λ x. nat_le (key x) bound) offers k → key o ≤ bound → i < k
   ends_by cut le =
-      elim (either i k) [
+      elim (cases_lt i k) [
         | inl less ↦ less
         | inr after ↦ (let high = leb-false (key o) bound (cut.behind i o here after) in absurd (omega (arith, high, le)))
       ]

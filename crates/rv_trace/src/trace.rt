@@ -129,8 +129,8 @@ impl<'a, L: Write> Trace<'a, L> {
             return Ok(());
         };
         let set = step.set_in(effects.register, machine.hart());
-        let has_decimal = fill_decimal(line, effects, set);
-        let is_full = fill(line, effects, set, step);
+        let has_decimal = fill_decimal(line, effects, &set);
+        let is_full = fill(line, effects, &set, step);
         if is_full && has_decimal && step.taken().count == 0 {
             return Ok(());
         }
@@ -139,7 +139,7 @@ impl<'a, L: Write> Trace<'a, L> {
         put_told(
             &mut self.kept,
             (start, offset),
-            set,
+            &set,
             step.taken(),
             machine.memory(),
         )?;
@@ -149,7 +149,7 @@ impl<'a, L: Write> Trace<'a, L> {
 
 /// Writes into a line the value of its register in decimal, if it is small; false where that has no room, at the line's end.
 #[inline]
-fn fill_decimal(line: &mut [u8], effects: &Effects, set: Option<Setting>) -> bool {
+fn fill_decimal(line: &mut [u8], effects: &Effects, set: &Option<Setting>) -> bool {
     let Some(setting) = set else {
         return true;
     };
@@ -158,7 +158,7 @@ fn fill_decimal(line: &mut [u8], effects: &Effects, set: Option<Setting>) -> boo
 
 /// Writes into a line what its step tells; whether that fills the line. It does not where nothing was accessed, as by an `sc`
 /// that failed.
-fn fill(line: &mut [u8], effects: &Effects, set: Option<Setting>, step: &Step) -> bool
+fn fill(line: &mut [u8], effects: &Effects, set: &Option<Setting>, step: &Step) -> bool
     ensures { result ≡ is_full effects.now.access step.now }
 {
     if let Some(setting) = set {
@@ -182,7 +182,7 @@ fn fill(line: &mut [u8], effects: &Effects, set: Option<Setting>, step: &Step) -
 fn put_told<M: Memory>(
     text: &mut Vec<u8>,
     place: (usize, usize),
-    set: Option<Setting>,
+    set: &Option<Setting>,
     taken: Span,
     memory: &M,
 ) -> Result<(), AllocError> {
