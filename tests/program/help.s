@@ -549,12 +549,14 @@ Arguments:
 Options:
       --map <F>  The map of the executable, which has its names
       --base     Shows base instructions and no aliases
+      --lines    Shows the lines of source before their code, of an executable with line tables
   -h, --help     Print help
 
 Examples:
   rv dis prog.o
   rv dis --map prog.map prog
   rv dis --base prog.o
+  rv dis --lines prog
 
 The columns are those of GNU's objdump -d -r.
 #--- list.txt
