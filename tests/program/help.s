@@ -569,6 +569,7 @@ Arguments:
 
 Options:
       --all             Shows all bytes of a line, and not the first rows alone
+  -g                    Takes what GCC writes with -g: .loc, .file N, .uleb128, .sleb128
       --text-start <N>  The address of the text, decimal or 0x and hexadecimal [default: 0x10000]
       --origin <N>      The address of the text, also behind the stack, such as 0x80000000
       --no-relax        Leaves every call its eight bytes
