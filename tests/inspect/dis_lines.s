@@ -1,9 +1,9 @@
 # The lines of source stand in front of their code where they change, and behind each name, as `objdump -d -l` has those of C.
 # The rows are those that `.loc` says (DWARF 5, 6.2); of an object, whose addresses are open, no line is known.
-# rv: build -g -o exe --map map a.s
+# rv: as -g -o a.o a.s
+# rv: ld -g -o exe --map map a.o
 # rv: dis --lines exe
 # out is: lines.txt
-# rv: as -g -o a.o a.s
 # rv: dis --lines a.o
 # out has: 0000000000000000 <_start>:
 # out has:    0:	451d                	li	a0,7
