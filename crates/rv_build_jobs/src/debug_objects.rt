@@ -40,7 +40,13 @@ pub(crate) fn object_for_debuggers<S: System>(
     };
     let plain = plain_text(alloc, text)?;
     let own_text = assembled_text(alloc, plain.as_slice(), relax)?;
-    let own = own_object(system, name, plain.as_slice(), own_text.as_slice(), explains)?;
+    let own = own_object(
+        system,
+        name,
+        plain.as_slice(),
+        own_text.as_slice(),
+        explains,
+    )?;
     let changed = assembled_text(alloc, changed.as_slice(), relax)?;
     match loaded_object(alloc, changed.as_slice(), own.sections.as_slice()) {
         Ok(file) => {
@@ -192,7 +198,9 @@ fn warn_of_plain<S: System>(
 ) -> Result<(), JobError> {
     let alloc: Global = system.alloc();
     let why = fault_line(alloc, &Fault::Source(1, fault), &[source])?;
-    let line = format!(in alloc; "warning: sections that are not loaded lack what they refer to: {why}")?;
+    let line = format!(in alloc;
+        "warning: sections that are not loaded lack what they refer to: {why}"
+    )?;
     system.tell(line.as_str());
     Ok(())
 }

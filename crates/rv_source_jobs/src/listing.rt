@@ -28,47 +28,41 @@ pub fn list<S: System>(
     style: ListStyle,
 ) -> Result<u8, JobError> {
     let read = files_bytes(system, names)?;
-    let alloc: Global = system.alloc();
-    let texts = borrowed(alloc, read.as_slice())?;
-    let plain = plain_sources(alloc, texts.as_slice(), style.debug)?;
-    let built = built_sources(alloc, texts.as_slice(), plain.as_slice())?;
-    let (map, image) = program(alloc, names, built.as_slice(), options)?;
-    let sources = named(alloc, names, texts.as_slice())?;
-    let rows = if style.all { usize::MAX } else { ROWS };
-    print_sources(system, sources.as_slice(), &map, &image, rows)
+    if !style.debug {
+        return print_lines(system, names, &read, &read, options, style.all);
+    }
+    let plain = plain_sources(system.alloc(), &read)?;
+    print_lines(system, names, &read, &plain, options, style.all)
 }
 
-/// Sources without what only debug sections have; none of one that has nothing of it, or is taken as it is.
-fn plain_sources(
-    alloc: Global,
-    texts: &[&[u8]],
-    debug: bool,
-) -> Result<Vec<Option<Vec<u8>>>, AllocError> {
+/// Sources without what only debug sections have, in which lines have the same numbers.
+fn plain_sources(alloc: Global, read: &[Vec<u8>]) -> Result<Vec<Vec<u8>>, AllocError> {
     let mut plain = Vec::new(alloc);
-    for text in texts {
-        plain.push(if debug {
-            plain_source(alloc, text)?
-        } else {
-            None
+    for text in read {
+        plain.push(match plain_source(alloc, text)? {
+            Some(plain) => plain,
+            None => Vec::from_slice(alloc, text)?,
         })?;
     }
     Ok(plain)
 }
 
-/// What is built of sources, in which lines have the same numbers.
-fn built_sources<'t>(
-    alloc: Global,
-    texts: &[&'t [u8]],
-    plain: &'t [Option<Vec<u8>>],
-) -> Result<Vec<&'t [u8]>, AllocError> {
-    let mut built: Vec<&'t [u8]> = Vec::new(alloc);
-    for (text, plain) in texts.iter().zip(plain) {
-        built.push(match plain {
-            Some(plain) => plain.as_slice(),
-            None => text,
-        })?;
-    }
-    Ok(built)
+/// Builds what sources that were read are built as, and prints their lines; the exit status.
+fn print_lines<S: System>(
+    system: &mut S,
+    names: &[&str],
+    read: &[Vec<u8>],
+    built: &[Vec<u8>],
+    options: GroundOptions,
+    all: bool,
+) -> Result<u8, JobError> {
+    let alloc: Global = system.alloc();
+    let built = borrowed(alloc, built)?;
+    let (map, image) = program(alloc, names, built.as_slice(), options)?;
+    let texts = borrowed(alloc, read)?;
+    let sources = named(alloc, names, texts.as_slice())?;
+    let rows = if all { usize::MAX } else { ROWS };
+    print_sources(system, sources.as_slice(), &map, &image, rows)
 }
 
 /// Prints the lines of sources, with so many rows a line; the exit status.
