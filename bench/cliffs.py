@@ -256,8 +256,8 @@ ALONE = ("stack", "code in turns")
 
 
 def beginning(segment, place, form):
-    """The programs that begin alike: those of a segment, and the whole programs at a place. Those in ALONE begin each by
-    itself."""
+    """The programs that begin alike: those of a segment, and the whole programs at a place. Those in ALONE begin each
+    by itself."""
     if segment in ALONE:
         return segment, place, form
     return (segment, place) if segment == WHOLE else segment

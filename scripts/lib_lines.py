@@ -1,9 +1,9 @@
 #!/usr/bin/env python3
 """Tests that each list of modules says in a line what each of them is: the first sentence of the module's own head.
 
-A list is a Lib.antt, or the file of a folder of modules, whose own head stands first and says what the folder is. --write
-writes the lines anew, in the order in which the modules stand. Lists what differs, and the modules without a head; the last
-line is 'N passed, M failed'.
+A list is a Lib.antt, or the file of a folder of modules, whose own head stands first and says what the folder is.
+--write writes the lines anew, in the order in which the modules stand. Lists what differs, and the modules without a
+head; the last line is 'N passed, M failed'.
 """
 
 import re
@@ -34,7 +34,7 @@ def folder(listing):
 
 
 def told(listing, text):
-    """The lines that a list should have: before each module what it is; other lines as they stand, and a folder's head."""
+    """The lines that a list should have: before each module what it is; other lines, and a folder's head, as they are."""
     own, blank, rest = ("", "", text) if listing.name == "Lib.antt" else text.partition("\n\n")
     yield own + blank
     for line in rest.splitlines(keepends=True):

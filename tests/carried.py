@@ -14,8 +14,8 @@ makes of their objects by `rv as -g`; also where one stands in an archive, and -
 
 Where GCC writes lines as `.loc`, objdump reads in the executable of `rv ld -g` the rows that GNU as and ld make of the
 same sources, and `rv build -g` loads what these sources without their lines give without `-g`. There `rv dis --lines`
-prints what `objdump -d -l` prints, but for the names of functions and for discriminators, and for the folder where a line
-table of DWARF 4 was compiled, which it does not say.
+prints what `objdump -d -l` prints, but for the names of functions and for discriminators, and for the folder where a
+line table of DWARF 4 was compiled, which it does not say.
 
 Without GCC for RISC-V nothing is tested. Standard library alone; the last line is 'N passed, M failed'.
 """
@@ -218,7 +218,7 @@ def lines_of_functions(folder, exe):
 
 
 def without_discriminators(listing):
-    """What `objdump -d -l` prints, without the names of functions and discriminators: each line of source until another."""
+    """What `objdump -d -l` prints, but names of functions and discriminators: each line of source until another one."""
     kept, last = [], None
     for line in re.sub(r"(?m) \(discriminator \d+\)$|^\S+\(\):\n", "", listing).splitlines():
         is_source = re.match(r"[\w./-]+:\d+$", line)

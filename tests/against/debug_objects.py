@@ -3,8 +3,8 @@
 usage: compare.py debug_objects [COUNT]      (200 sources by default)
 
 GCC compiles with `-g` and the words that docs/manual/gcc.md names, for DWARF 5 and 4 in turn, at four levels: the
-programs of bench/ and examples/c, and then C that bench/drawn.py draws. Behind each source stand sections of other names,
-with values and differences of its names in all widths, and a name that nothing defines. Of each it asks that
+programs of bench/ and examples/c, and then C that bench/drawn.py draws. Behind each source stand sections of other
+names, with values and differences of its names in all widths, and a name that nothing defines. Of each it asks that
 
   sections     sections without the flag `a` are those of GNU as, with the same bytes, type, flags and alignment
   relocations  theirs have the same offsets, kinds, symbols and addends
@@ -98,7 +98,7 @@ class Object:
                     yield at, info & 0xFFFFFFFF, name, value + addend
 
     def unloaded(self):
-        """Of each section without `a`, but for those of tools, its type and flags, its size and bytes, and its relocations."""
+        """Of each section without `a`, but those of tools: its type and flags, its size and bytes, its relocations."""
         for index, (name, header) in enumerate(zip(self.names, self.headers)):
             if header[1] in TYPES and not header[2] & ALLOC and name not in OF_TOOLS:
                 # (M and S are flags that GNU as keeps)
