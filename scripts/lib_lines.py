@@ -34,7 +34,7 @@ def folder(listing):
 
 
 def told(listing, text):
-    """The lines that a list should have: before each module what it is; other lines, and a folder's head, as they are."""
+    """The lines that a list should have: before each module what it is; others, and a folder's head, as they are."""
     own, blank, rest = ("", "", text) if listing.name == "Lib.antt" else text.partition("\n\n")
     yield own + blank
     for line in rest.splitlines(keepends=True):
